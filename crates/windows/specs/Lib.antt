@@ -1,0 +1,4 @@
+pub mod Spans
+pub mod Choices
+pub mod Meanings
+pub mod Windows

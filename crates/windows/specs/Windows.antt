@@ -1,0 +1,17 @@
+-- Windows as the code holds them, by their spans.
+-- Assumes nothing.
+use Prim.Native.Nat.{ℕ}
+use mathlib.Core.Bool.{cond}
+use lib.Dec.{leb}
+use Rattle.std.specs.declared.option.Option.{Option}
+use Rattle.std.specs.declared.option.Option.the-variants.{Some, None}
+use Rattle.windows.specs.Spans.{Span}
+use Rattle.windows.specs.declared.window.Window.{Window}
+
+-- The two ends of a window.
+abbrev pub span : Window → Span
+span w = record { lo = w .lo; hi = w .hi }
+
+-- The window from lo to hi, or none where the lower end is above the upper.
+abbrev pub spanned : ℕ → ℕ → Option Span
+spanned lo hi = cond (leb lo hi) (Some (record { lo = lo; hi = hi })) None

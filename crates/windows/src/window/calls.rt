@@ -1,0 +1,32 @@
+//! Making and reading windows.
+ghost use mathlib.Core.Path.{_≡_};
+ghost use Rattle.std.specs.Options.{mapped};
+ghost use Rattle.windows.specs.Windows.{span, spanned};
+use super::Window;
+
+impl Window {
+    /// The window from `lo` to `hi`, or `None` where `lo` is above `hi`.
+    pub fn new(lo: u32, hi: u32) -> Option<Window>
+        ensures { λ r. ⌜ mapped span r ≡ spanned lo hi ⌝ }
+    {
+        if lo <= hi {
+            Some(Window { lo, hi })
+        } else {
+            None
+        }
+    }
+
+    /// The lower end.
+    pub fn lo(&self) -> u32
+        ensures { λ r. ⌜ r ≡ now (self .entry) .lo ⌝ }
+    {
+        self.lo
+    }
+
+    /// The upper end.
+    pub fn hi(&self) -> u32
+        ensures { λ r. ⌜ r ≡ now (self .entry) .hi ⌝ }
+    {
+        self.hi
+    }
+}
