@@ -1,0 +1,4 @@
+pub mod Threes
+pub mod Twos
+pub mod Once
+pub mod Travels

@@ -1,0 +1,61 @@
+-- The rule kinds: their numbers, how many lines each names, and which codes satisfy it.
+-- Product and sum are those of a drive; the later of two codes is the greater one up to the drive's top.
+-- Assumes nothing.
+use Prim.Native.Nat.{ℕ, _≤_}
+use mathlib.Core.Bool.{Bool, true, false, cond}
+use mathlib.Core.List.{List, [], _∷_}
+use mathlib.Core.Path.{_≡_}
+use lib.Dec.{eqb}
+use lib.ListN.{getD}
+use Rattle.std.specs.declared.option.Option.{Option}
+use Rattle.std.specs.declared.option.Option.the-variants.{Some, None}
+use Rattle.codes.specs.Operations.{later}
+use Rattle.books.specs.declared.kind.Kind.{Kind}
+use Rattle.books.specs.declared.kind.Kind.the-variants.{Travel, Sum, Later, NotAfter}
+
+-- The kind of a number.
+abbrev pub numbered : ℕ → Option Kind
+numbered n = cond (eqb n 2) (Some Travel) (cond (eqb n 3) (Some Sum) (cond (eqb n 4) (Some Later) (cond (eqb n 5) (Some NotAfter) None)))
+
+-- The kind of a number among those that a book has: `kinds` says by its place whether the number is one of them.
+abbrev pub among : List Bool → ℕ → Option Kind
+among kinds n = cond (getD kinds n false) (numbered n) None
+
+-- How many lines a kind names.
+abbrev pub lines : Kind → ℕ
+lines Travel = 3
+lines Sum = 3
+lines Later = 3
+lines NotAfter = 2
+
+-- The same where there may be no kind: none names no lines.
+abbrev pub lines-of : Option Kind → ℕ
+lines-of None = 0
+lines-of (Some k) = lines k
+
+-- The third of three codes is what the operation f makes of the first two.
+abbrev pub Made : (ℕ → ℕ → ℕ) → List ℕ → Type 0
+Made f [] = ⊥
+Made f (x ∷ []) = ⊥
+Made f (x ∷ y ∷ []) = ⊥
+Made f (x ∷ y ∷ z ∷ []) = f x y ≡ z
+Made f (x ∷ y ∷ z ∷ w ∷ rest) = ⊥
+
+-- The first of two codes is not above the second.
+abbrev pub Not-after : List ℕ → Type 0
+Not-after [] = ⊥
+Not-after (x ∷ []) = ⊥
+Not-after (x ∷ y ∷ []) = x ≤ y
+Not-after (x ∷ y ∷ z ∷ rest) = ⊥
+
+-- What the codes of a rule's lines have to meet, with a drive's product, sum and top.
+abbrev pub Meets : (ℕ → ℕ → ℕ) → (ℕ → ℕ → ℕ) → ℕ → Kind → List ℕ → Type 0
+Meets product sum top Travel = Made product
+Meets product sum top Sum = Made sum
+Meets product sum top Later = Made (later top)
+Meets product sum top NotAfter = Not-after
+
+-- The same where there may be no kind, which nothing meets.
+abbrev pub Meets-of : (ℕ → ℕ → ℕ) → (ℕ → ℕ → ℕ) → ℕ → Option Kind → List ℕ → Type 0
+Meets-of product sum top None xs = ⊥
+Meets-of product sum top (Some k) xs = Meets product sum top k xs

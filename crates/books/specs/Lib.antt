@@ -1,0 +1,4 @@
+pub mod Kinds
+pub mod Narrowings
+pub mod CounterBooks
+pub mod Worked
