@@ -4,12 +4,14 @@
 use Prim.Native.Nat.{ℕ, _≤_}
 use mathlib.Core.Bool.{Bool, true, false, cond}
 use mathlib.Core.List.{List, [], _∷_}
-use mathlib.Core.Path.{_≡_}
+use mathlib.Core.Logic.{_⊎_, inl, inr}
+use mathlib.Core.Path.{_≡_, refl}
 use lib.Dec.{eqb}
 use lib.ListN.{getD}
 use Rattle.std.specs.declared.option.Option.{Option}
 use Rattle.std.specs.declared.option.Option.the-variants.{Some, None}
 use Rattle.codes.specs.Operations.{later}
+use Rattle.windows.specs.Meanings.{Counts}
 use Rattle.books.specs.declared.kind.Kind.{Kind}
 use Rattle.books.specs.declared.kind.Kind.the-variants.{Travel, Sum, Later, NotAfter}
 
@@ -32,6 +34,17 @@ lines NotAfter = 2
 abbrev pub lines-of : Option Kind → ℕ
 lines-of None = 0
 lines-of (Some k) = lines k
+
+-- So a kind that a book has names 2 or 3 lines, and any other none.
+counted-of : (k : Option Kind) → (lines-of k ≡ 0) ⊎ ((lines-of k ≡ 2) ⊎ (lines-of k ≡ 3))
+counted-of None = inl refl
+counted-of (Some Travel) = inr (inr refl)
+counted-of (Some Sum) = inr (inr refl)
+counted-of (Some Later) = inr (inr refl)
+counted-of (Some NotAfter) = inr (inl refl)
+
+pub counted : (kinds : List Bool) → Counts (λ n. lines-of (among kinds n))
+counted kinds n = counted-of (among kinds n)
 
 -- The third of three codes is what the operation f makes of the first two.
 abbrev pub Made : (ℕ → ℕ → ℕ) → List ℕ → Type 0

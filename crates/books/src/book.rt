@@ -28,9 +28,10 @@ pub trait Book {
 
     ghost related: { Self → ℕ → List ℕ → Type 0 };
 
-    law small: { top ≤ 65535 };
+    /// A kind names 0, 2 or 3 lines.
+    ghost counts: { Counts arity };
 
-    law counts: { Counts arity };
+    law small: { top ≤ 65535 };
 
     /// The top code.
     fn top_code() -> u32

@@ -1,7 +1,8 @@
 //! The book of the counter drive.
 ghost use mathlib.Core.List.{[], _∷_};
 ghost use mathlib.Core.Path.{_≡_};
-ghost use Rattle.books.specs.CounterBooks.{Counter-meets, counter-lines};
+ghost use Rattle.books.specs.CounterBooks.{Counter-meets, counter-lines, two-to-five};
+ghost use Rattle.books.specs.Kinds.{counted};
 ghost use Rattle.books.specs.Narrowings.{Answered};
 ghost use Rattle.windows.specs.Windows.{span};
 use crate::book::Book;
@@ -30,6 +31,8 @@ pub impl Book for CounterBook as CounterBookBook {
     ghost drive = { 1 };
 
     ghost arity = { counter-lines };
+
+    ghost counts = { counted two-to-five };
 
     ghost mode = { λ _. 0 };
 

@@ -15,3 +15,7 @@ span w = record { lo = w .lo; hi = w .hi }
 -- The window from lo to hi, or none where the lower end is above the upper.
 abbrev pub spanned : ℕ → ℕ → Option Span
 spanned lo hi = cond (leb lo hi) (Some (record { lo = lo; hi = hi })) None
+
+-- The ends of a window that holds one code.
+abbrev pub single : ℕ → Span
+single code = record { lo = code; hi = code }

@@ -1,7 +1,7 @@
 //! Making and reading windows.
 ghost use mathlib.Core.Path.{_≡_};
 ghost use Rattle.std.specs.Options.{mapped};
-ghost use Rattle.windows.specs.Windows.{span, spanned};
+ghost use Rattle.windows.specs.Windows.{single, span, spanned};
 use super::Window;
 
 impl Window {
@@ -14,6 +14,13 @@ impl Window {
         } else {
             None
         }
+    }
+
+    /// The window that holds one code.
+    pub fn single(code: u32) -> Window
+        ensures { λ r. ⌜ span r ≡ single code ⌝ }
+    {
+        Window { lo: code, hi: code }
     }
 
     /// The lower end.

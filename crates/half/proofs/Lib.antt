@@ -1,0 +1,4 @@
+pub mod Sizes
+pub mod Rounded
+pub mod Cells
+pub mod Placed

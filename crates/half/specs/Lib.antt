@@ -1,0 +1,4 @@
+pub mod Formats
+pub mod Roundings
+pub mod Steps
+pub mod Laws

@@ -1,0 +1,12 @@
+pub mod Spans
+pub mod Runs
+pub mod Tries
+pub mod Force
+pub mod Declared
+pub mod Verdicts
+pub mod Soundness
+pub mod Cores
+pub mod Sheets
+pub mod Law
+pub mod Endings
+pub mod Worked

@@ -1,0 +1,12 @@
+pub mod Refusals
+pub mod Sheets
+pub mod Table
+pub mod Runs
+pub mod Histories
+pub mod Steps
+pub mod Force
+pub mod Boxes
+pub mod Sound
+pub mod Law
+pub mod WorkedHistories
+pub mod WorkedRefusals

@@ -1,0 +1,5 @@
+//! The sheet: lines, rules and tries over any book, seven calls that change it, and the law that holds after every list of them.
+mod mark;
+mod place;
+mod run;
+mod tables;
