@@ -17,14 +17,14 @@ module _ (f : ℕ → ℕ → ℕ) (a b c : Interval) where
   abbrev three : List Span
   three = at a ∷ at b ∷ at c ∷ []
 
-  -- a choice of the operation is one of the rule
+  -- A choice of the operation is one of the rule.
   onto : (x y z : ℕ) → boxes.Choice f a b c x y z → Choice (Made f) three (x ∷ y ∷ z ∷ [])
   onto x y z h = record {
     each = (record { from = h .first .from; to = h .first .to }, (record { from = h .second .from; to = h .second .to }, (record { from = h .third .from; to = h .third .to }, tt)));
     related = h .result;
   }
 
-  -- a choice of the rule has three codes, and is one of the operation
+  -- A choice of the rule has three codes, and is one of the operation.
   back : (xs : List ℕ) → Choice (Made f) three xs → (x : ℕ) × (y : ℕ) × (z : ℕ) × boxes.Choice f a b c x y z × (xs ≡ x ∷ y ∷ z ∷ [])
   back [] h = absurd (h .related)
   back (x ∷ []) h = absurd (h .related)
@@ -43,7 +43,7 @@ module _ (f : ℕ → ℕ → ℕ) (a b c : Interval) where
   )
   back (x ∷ y ∷ z ∷ w ∷ rest) h = absurd (h .related)
 
-  -- no choice of the operation: none of the rule
+  -- No choice of the operation: none of the rule.
   pub three-none : ((x y z : ℕ) → boxes.Choice f a b c x y z → ⊥) → No-choice (Made f) three
   three-none none xs h = let k = back xs h in none (k .0) (k .1) (k .2) (k .3)
 
@@ -52,12 +52,14 @@ module _ (f : ℕ → ℕ → ℕ) (a b c : Interval) where
     abbrev closed : List Span
     closed = at (box .a) ∷ at (box .b) ∷ at (box .c) ∷ []
 
+    -- No choice of the rule is lost.
     holds : (xs : List ℕ) → Choice (Made f) three xs → Each closed xs
     holds xs h =
         let k = back xs h in
         let lies = small .holds (k .0) (k .1) (k .2) (k .3) in
         rw (k .4) (record { from = lies .first .from; to = lies .first .to }, (record { from = lies .second .from; to = lies .second .to }, (record { from = lies .third .from; to = lies .third .to }, tt)))
 
+    -- Each end belongs to a choice of the rule.
     ends : (i : ℕ) → i < 3 → Ends-supported (Made f) three i (getD closed i nowhere)
     ends zero h =
         let l = small .first-lo in
@@ -82,7 +84,7 @@ module _ (f : ℕ → ℕ → ℕ) (a b c : Interval) where
         }
     ends (suc (suc (suc i))) h = let z : ⊥ = omega arith in absurd z
 
-    -- the smallest box of the operation is the smallest box of the rule
+    -- The smallest box of the operation is the smallest box of the rule.
     pub three-closes : Closes 3 (Made f) three closed
     three-closes = record {
       smallest = record { same = refl; codes = _; some = onto _ _ _ (small .first-lo .2); holds = holds; ends = ends };

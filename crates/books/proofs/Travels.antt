@@ -1,4 +1,4 @@
--- The worked cases, over the definitions. Assumes nothing.
+-- The worked cases of the counter drive, over the definitions. Assumes nothing.
 use Prim.Native.Nat.{ℕ, _+_, _*_, _/_, _≤_, _<_}
 use native.Mathlib.Omega.{arith}
 use mathlib.Core.List.{List, [], _∷_}
@@ -11,14 +11,14 @@ use Rattle.boxes.specs.declared.interval.Interval.{Interval}
 use Rattle.boxes.specs.declared.cuboid.Cuboid.{Cuboid}
 use Rattle.boxes.specs.Boxes.{Choice, In, Smallest}
 use Rattle.codes.specs.Counter.{counter-product}
-use Rattle.books.specs.Worked.{Counter-products, Counter-travels, Worked-cases}
+use Rattle.books.specs.Worked.{Counter-products, Counter-travels}
 use Rattle.books.proofs.Threes.{three-none, three-closes}
 
--- small factors: the product is the quotient
+-- Small factors: the product is the quotient.
 plain : (a b : ℕ) → a ≤ 65535 → b ≤ 65535 → a * b / 1000 ≤ 65535 → counter-product a b ≡ a * b / 1000
 plain a b ha hb hr = search needs
 
--- one of two neighbours
+-- One of two neighbours.
 either : (lo x : ℕ) → lo ≤ x → x ≤ lo + 1 → (x ≡ lo) ⊎ (x ≡ lo + 1)
 either lo x l h = search needs
 
@@ -46,6 +46,7 @@ right-known k x y e hx hk hr = ap (λ (v : ℕ). counter-product x v) e ∙ plai
 abbrev inside : Interval → ℕ → Bool
 inside w x = leb (w .lo) x && leb x (w .hi)
 
+-- What the test says.
 inside-in : (w : Interval) (x : ℕ) → T (inside w x) → In w x
 inside-in w x t = record { from = leb→le _ _ (and-first _ _ t); to = leb→le _ _ (and-second _ _ t) }
 
@@ -67,12 +68,14 @@ module _ where
   abbrev box₁ : Cuboid
   box₁ = record { a = a₁; b = b₁; c = from-to 4503 4504 (lit≤ tt) (lit< tt) }
 
+  -- A product of the windows lies from 4503 to 4504.
   met₁ : (x y z : ℕ) → x ≤ 3002 → 3000 ≤ x → 1500 ≤ y → y ≤ 1501 → 4502 ≤ z → z ≤ 4505 → counter-product x y ≡ z → (4503 ≤ z) × (z ≤ 4504)
   met₁ x y z hx lx ly hy lz hz e = elim (either 1500 y ly hy) [
     | inl k ↦ (let r : z ≡ x * 1500 / 1000 = sym e ∙ right-known 1500 x y k (omega arith) (lit≤ tt) (omega arith) in (omega arith, omega arith))
     | inr k ↦ (let r : z ≡ x * 1501 / 1000 = sym e ∙ right-known 1501 x y k (omega arith) (lit≤ tt) (omega arith) in (omega arith, omega arith))
   ]
 
+  -- Six products at the six ends.
   smallest₁ : Smallest counter-product a₁ b₁ c₁ box₁
   smallest₁ = record {
     holds = λ x y z h.
@@ -100,12 +103,14 @@ module _ where
   abbrev box₂ : Cuboid
   box₂ = record { a = from-to 4 4 (lit≤ tt) (lit< tt); b = from-to 1250 1499 (lit≤ tt) (lit< tt); c = c₂ }
 
+  -- A product of 5 comes from 4 and from 1250 to 1499.
   met₂ : (x y z : ℕ) → 3 ≤ x → x ≤ 4 → 1000 ≤ y → y ≤ 1500 → 5 ≤ z → z ≤ 5 → counter-product x y ≡ z → (4 ≤ x) × (1250 ≤ y) × (y ≤ 1499)
   met₂ x y z lx hx ly hy lz hz e = elim (either 3 x lx hx) [
     | inl k ↦ (let r : z ≡ 3 * y / 1000 = sym e ∙ left-known 3 x y k (lit≤ tt) (omega arith) (omega arith) in let no-way : ⊥ = omega arith in absurd no-way)
     | inr k ↦ (let r : z ≡ 4 * y / 1000 = sym e ∙ left-known 4 x y k (lit≤ tt) (omega arith) (omega arith) in (omega arith, omega arith, omega arith))
   ]
 
+  -- Two products, at the ends of the second window.
   smallest₂ : Smallest counter-product a₂ b₂ c₂ box₂
   smallest₂ = record {
     holds = λ x y z h.
@@ -133,6 +138,7 @@ module _ where
   abbrev c₃ : Interval
   c₃ = from-to 3232 3232 (lit≤ tt) (lit< tt)
 
+  -- 1700 makes 3230 or 3231, 1701 makes 3231 or 3233.
   none₃ : (x y z : ℕ) → Choice counter-product a₃ b₃ c₃ x y z → ⊥
   none₃ x y z h =
       let lx : 1700 ≤ x = h .first .from in
@@ -146,16 +152,14 @@ module _ where
         | inr k ↦ (let r : z ≡ 1701 * y / 1000 = sym (h .result) ∙ left-known 1701 x y k (lit≤ tt) (omega arith) (omega arith) in omega arith)
       ]
 
+-- The products, by computing.
 pub counter-products : Counter-products
 counter-products = record { just-below-one = refl; just-one = refl; just-top = refl; just-over = refl }
 
+-- The travels, by the boxes above.
 pub counter-travels : Counter-travels
 counter-travels = record {
   jumps = three-closes counter-product a₁ b₁ c₁ box₁ smallest₁;
   middle = three-closes counter-product a₂ b₂ c₂ box₂ smallest₂;
   empty = three-none counter-product a₃ b₃ c₃ none₃;
 }
-
--- All of them.
-pub worked-cases : Worked-cases
-worked-cases = record { products = counter-products; travels = counter-travels }

@@ -1,4 +1,8 @@
 -- The rule kinds: their numbers, how many lines each names, and which codes satisfy it.
+--   kind      2 travel, 3 sum, 4 later, 5 not after; any other number names no kind
+--   kinds     the set of kinds that a book has: at the place of each number, whether the book has that kind
+--   lines     how many lines a rule of the kind names: 3, or 2 for not after
+--   meets     what the codes of those lines have to be to each other
 -- Product and sum are those of a drive; the later of two codes is the greater one up to the drive's top.
 -- Assumes nothing.
 use Prim.Native.Nat.{ℕ, _≤_}
@@ -22,6 +26,10 @@ numbered n = cond (eqb n 2) (Some Travel) (cond (eqb n 3) (Some Sum) (cond (eqb 
 -- The kind of a number among those that a book has: `kinds` says by its place whether the number is one of them.
 abbrev pub among : List Bool → ℕ → Option Kind
 among kinds n = cond (getD kinds n false) (numbered n) None
+
+-- The kinds 2 to 5, by their places.
+abbrev pub two-to-five : List Bool
+two-to-five = false ∷ false ∷ true ∷ true ∷ true ∷ true ∷ false ∷ false ∷ []
 
 -- How many lines a kind names.
 abbrev pub lines : Kind → ℕ

@@ -1,4 +1,5 @@
 pub mod Kinds
 pub mod Narrowings
 pub mod CounterBooks
+pub mod HalfBooks
 pub mod Worked

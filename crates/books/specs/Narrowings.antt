@@ -1,4 +1,9 @@
 -- What a book's narrowing answers.
+--   span      a window by its two ends
+--   read      the windows that a kind's lines have; passed, those that it passes over
+--   fit       the book has the kind, and no end of the windows read is above its top
+--   closes    the windows read become the smallest box that holds every satisfying choice
+--   seen      an answer by what it shows: unfit, no choice, or the spans of the closed windows
 -- A kind of n lines reads the first n of three windows; a window's lower end is never above its upper one.
 -- Assumes nothing.
 use Prim.Native.Nat.{ℕ, _≤_, _<_}

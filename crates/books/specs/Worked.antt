@@ -1,9 +1,12 @@
--- Worked cases of the counter drive.
+-- Worked cases of both drives.
+--   product, sum   the code that a drive's operation makes of two codes
+--   travel         a rule of kind 2, closed: its windows before and after, lower and upper end of each
 -- Assumes nothing.
 use Prim.Native.Nat.{ℕ}
 use mathlib.Core.List.{List, [], _∷_}
 use mathlib.Core.Path.{_≡_}
 use Rattle.codes.specs.Counter.{counter-product}
+use Rattle.half.specs.Laws.{HalfCases}
 use Rattle.windows.specs.Spans.{Span}
 use Rattle.windows.specs.Choices.{No-choice}
 use Rattle.books.specs.CounterBooks.{Counter-meets}
@@ -22,6 +25,8 @@ pub record Counter-travels : Type 0 where
   pub middle : Closes 3 (Counter-meets 2) (ends 3 4 ∷ ends 1000 1500 ∷ ends 5 5 ∷ []) (ends 4 4 ∷ ends 1250 1499 ∷ ends 5 5 ∷ [])
   pub empty : No-choice (Counter-meets 2) (ends 1700 1701 ∷ ends 1900 1901 ∷ ends 3232 3232 ∷ [])
 
+-- Four counter products, three counter travels, and the half drive's four products and two sums, each in three modes.
 pub record Worked-cases : Type 0 where
   pub products : Counter-products
   pub travels : Counter-travels
+  pub halves : HalfCases

@@ -3,8 +3,10 @@ ghost use Prim.Native.Nat.{_≤_, _<_};
 ghost use mathlib.Core.Bool.{true, false};
 ghost use mathlib.Core.List.{[], _∷_};
 ghost use mathlib.Core.Path.{_≡_};
-ghost use Rattle.books.specs.Kinds.{Made, Meets, Meets-of, Not-after, lines, lines-of};
+ghost use Rattle.std.specs.Options.{Cases as BySome};
+ghost use Rattle.books.specs.Kinds.{Made, Meets, Meets-of, Not-after, among, lines, lines-of};
 ghost use Rattle.books.specs.Narrowings.{Answered, Closing, Up-to, at, ends, read};
+ghost use Rattle.windows.specs.Choices.{No-choice, Smallest};
 ghost use Rattle.windows.specs.Windows.{span};
 use crate::kind::Kind;
 use crate::narrowing::Narrowing;
@@ -47,17 +49,28 @@ fn by_operation<O: Operation + Copy>(op: O, a: Window, b: Window, c: Window) -> 
     }
 }
 
-/// The smallest box of two windows whose codes are in order; the third is passed over.
-fn not_after(a: Window, b: Window, c: Window) -> Option<Triple>
-    ensures { λ r. ⌜ Closing 2 Not-after (span a ∷ span b ∷ span c ∷ []) r ⌝ }
+/// The smallest box of two windows whose codes are in order.
+fn in_order(a: Window, b: Window) -> Option<(Window, Window)>
+    ensures { λ r. ⌜ BySome r (No-choice Not-after (span a ∷ span b ∷ [])) (λ closed. Smallest Not-after (span a ∷ span b ∷ []) (span (closed .0) ∷ span (closed .1) ∷ [])) ⌝ }
 {
     if a.lo() > b.hi() {
         return None;
     }
+    Some((
+        window(a.lo(), a.hi().min(b.hi())),
+        window(a.lo().max(b.lo()), b.hi()),
+    ))
+}
+
+/// The smallest box of two windows whose codes are in order; the third is passed over.
+fn not_after(a: Window, b: Window, passed: Window) -> Option<Triple>
+    ensures { λ r. ⌜ Closing 2 Not-after (span a ∷ span b ∷ span passed ∷ []) r ⌝ }
+{
+    let (first, second) = in_order(a, b)?;
     Some(Triple {
-        a: window(a.lo(), a.hi().min(b.hi())),
-        b: window(a.lo().max(b.lo()), b.hi()),
-        c,
+        a: first,
+        b: second,
+        c: passed,
     })
 }
 
@@ -92,20 +105,21 @@ fn fits(top: u32, kind: Kind, a: Window, b: Window, c: Window) -> bool
     }
 }
 
-/// The narrowing of a book with this product, sum and top, by a kind that it has or by none.
-pub fn narrow_by<P: Operation + Copy, S: Operation + Copy>(
+/// The narrowing of a book with this product, sum, top and set of kinds, by the kind of this number.
+pub(crate) fn narrow_by<P: Operation + Copy, S: Operation + Copy>(
     product: P,
     sum: S,
     top: u32,
-    kind: Option<Kind>,
+    kinds: &[bool; 8],
+    number: u32,
     a: Window,
     b: Window,
     c: Window,
 ) -> Narrowing
     requires { ⌜ top ≤ 65535 ⌝ }
-    ensures { λ r. ⌜ Answered top (lines-of kind) (Meets-of (P·Operation .code product) (S·Operation .code sum) top kind) (span a ∷ span b ∷ span c ∷ []) r ⌝ }
+    ensures { λ r. ⌜ Answered top (lines-of (among (now (kinds .entry)) number)) (Meets-of (P·Operation .code product) (S·Operation .code sum) top (among (now (kinds .entry)) number)) (span a ∷ span b ∷ span c ∷ []) r ⌝ }
 {
-    let Some(kind) = kind else {
+    let Some(kind) = Kind::among(kinds, number) else {
         return Narrowing::Unfit;
     };
     if !fits(top, kind, a, b, c) {

@@ -1,13 +1,14 @@
 //! The book of the counter drive.
 ghost use mathlib.Core.List.{[], _∷_};
 ghost use mathlib.Core.Path.{_≡_};
-ghost use Rattle.books.specs.CounterBooks.{Counter-meets, counter-lines, two-to-five};
-ghost use Rattle.books.specs.Kinds.{counted};
+ghost use Rattle.books.specs.CounterBooks.{Counter-meets, counter-lines};
+ghost use Rattle.books.specs.Kinds.{counted, two-to-five};
 ghost use Rattle.books.specs.Narrowings.{Answered};
 ghost use Rattle.windows.specs.Windows.{span};
 use crate::book::Book;
 use crate::close::narrow_by;
 use crate::kind::Kind;
+use crate::kind::TWO_TO_FIVE;
 use crate::narrowing::Narrowing;
 use codes::counter::CounterProduct;
 use codes::counter::CounterProductOperation;
@@ -24,7 +25,7 @@ pub impl Book for CounterBook as CounterBookBook {
 
     const DRIVE: u8 = 1;
 
-    const KINDS: [bool; 8] = [false, false, true, true, true, true, false, false];
+    const KINDS: [bool; 8] = TWO_TO_FIVE;
 
     ghost top = { 65535 };
 
@@ -47,10 +48,7 @@ pub impl Book for CounterBook as CounterBookBook {
     }
 
     fn lines(kind: u32) -> u32 {
-        match Kind::among(&Self::KINDS, kind) {
-            Some(known) => known.lines(),
-            None => 0,
-        }
+        Kind::lines_among(&Self::KINDS, kind)
     }
 
     fn mode_number(&self) -> u8 {
@@ -58,15 +56,7 @@ pub impl Book for CounterBook as CounterBookBook {
     }
 
     fn narrow(&self, kind: u32, a: Window, b: Window, c: Window) -> Narrowing {
-        narrow_by(
-            CounterProduct,
-            CounterSum,
-            Self::TOP,
-            Kind::among(&Self::KINDS, kind),
-            a,
-            b,
-            c,
-        )
+        self.closed(kind, a, b, c)
     }
 }
 
@@ -76,6 +66,15 @@ impl CounterBook {
     pub fn closed(&self, kind: u32, a: Window, b: Window, c: Window) -> Narrowing
         ensures { λ r. ⌜ Answered 65535 (counter-lines kind) (Counter-meets kind) (span a ∷ span b ∷ span c ∷ []) r ⌝ }
     {
-        self.narrow(kind, a, b, c)
+        narrow_by(
+            CounterProduct,
+            CounterSum,
+            CounterBook::TOP,
+            &CounterBook::KINDS,
+            kind,
+            a,
+            b,
+            c,
+        )
     }
 }

@@ -19,7 +19,8 @@ use Rattle.law.specs.declared.calls.Answer.{Answer}
 use Rattle.law.specs.declared.calls.Refusal.{Refusal}
 use Rattle.law.specs.declared.calls.Refusal.the-variants.{Ends, NoLine, Twice, NoKind, Full, Empties, IsBarren, TooManyTries, WrongTicket}
 use Rattle.law.specs.Sheets.{Model, window, named, cut, most-lines, most-rules, most-tries}
-use Rattle.law.specs.Table.{Check, check, first, some-of, repeats, is-barren, bad-ends, no-line, misnames, is-empty, wrong-ticket, checks, verdict}
+use Rattle.law.specs.declared.table.Check.{Check}
+use Rattle.law.specs.Table.{check, first, some-of, repeats, is-barren, bad-ends, no-line, misnames, is-empty, wrong-ticket, checks, verdict}
 use Rattle.law.specs.Steps.{settled, told, with-core, Settles, Does, refused, does, Deterministic}
 use Rattle.law.specs.Sound.{Is-line, Fit-rule}
 use Rattle.law.proofs.Runs.{unique-ending}
@@ -41,17 +42,17 @@ some-of-false test (k ∷ ks) p =
     (q .0, some-of-false test ks (q .1))
 
 -- Ends that are not bad.
-good-ends : (m : Meaning) (lo hi : ℕ) → bad-ends m lo hi ≡ false → (lo ≤ hi) × (hi ≤ m .top)
-good-ends m lo hi p =
-    let q = or-parts (ltb hi lo) (ltb (m .top) hi) p in
-    (ltb-false hi lo (q .0), ltb-false (m .top) hi (q .1))
+good-ends : (top lo hi : ℕ) → bad-ends top lo hi ≡ false → (lo ≤ hi) × (hi ≤ top)
+good-ends top lo hi p =
+    let q = or-parts (ltb hi lo) (ltb top hi) p in
+    (ltb-false hi lo (q .0), ltb-false top hi (q .1))
 
 -- A line that is there.
-is-line : (ws : List Span) (k : ℕ) → no-line ws k ≡ false → Is-line (length ws) k
-is-line ws k p =
-    let q = or-parts (eqb k 0) (ltb (length ws) k) p in
+is-line : (n k : ℕ) → no-line n k ≡ false → Is-line n k
+is-line n k p =
+    let q = or-parts (eqb k 0) (ltb n k) p in
     let f : (k ≡ 0 → ⊥) = eqb-false k 0 (q .0) in
-    record { above-zero = omega arith; there = ltb-false (length ws) k (q .1) }
+    record { above-zero = omega arith; there = ltb-false n k (q .1) }
 
 -- A rule of two lines names no third.
 no-third-named : (n c : ℕ) → (eqb n 2 && not (eqb c 0)) ≡ false → n ≡ 2 → c ≡ 0
@@ -68,10 +69,10 @@ pub record Line-taken (m : Meaning) (s : Model) (lo hi : ℕ) : Type 0 where
 pub line-taken : (m : Meaning) (id : ℕ) (s : Model) (lo hi : ℕ) → verdict m id s (Call.Line lo hi) ≡ None → Line-taken m s lo hi
 unfolding verdict checks
 line-taken m id s lo hi p =
-    let a = first-none IsBarren (is-barren (s .core .state)) (check Ends (bad-ends m lo hi) ∷ check Full (leb most-lines (length (s .core .windows))) ∷ []) p in
-    let b = first-none Ends (bad-ends m lo hi) (check Full (leb most-lines (length (s .core .windows))) ∷ []) (a .1) in
+    let a = first-none IsBarren (is-barren (s .core .state)) (check Ends (bad-ends (m .top) lo hi) ∷ check Full (leb most-lines (length (s .core .windows))) ∷ []) p in
+    let b = first-none Ends (bad-ends (m .top) lo hi) (check Full (leb most-lines (length (s .core .windows))) ∷ []) (a .1) in
     let c = first-none Full (leb most-lines (length (s .core .windows))) [] (b .1) in
-    let e = good-ends m lo hi (b .0) in
+    let e = good-ends (m .top) lo hi (b .0) in
     record { ordered = e .0; up-to-top = e .1; room = leb-false most-lines (length (s .core .windows)) (c .0) }
 
 -- An accepted rule.
@@ -86,17 +87,17 @@ rule-taken m id s r p =
     let ws = s .core .windows in
     let room = leb most-rules (length (s .core .rules)) in
     let a = first-none IsBarren (is-barren (s .core .state))
-    (check NoKind (eqb (m .arity (r .kind)) 0) ∷ check NoLine (misnames m ws r) ∷ check Twice (repeats (named m r)) ∷ check Full room ∷ []) p in
-    let b = first-none NoKind (eqb (m .arity (r .kind)) 0) (check NoLine (misnames m ws r) ∷ check Twice (repeats (named m r)) ∷ check Full room ∷ []) (a .1) in
-    let c = first-none NoLine (misnames m ws r) (check Twice (repeats (named m r)) ∷ check Full room ∷ []) (b .1) in
+    (check NoKind (eqb (m .arity (r .kind)) 0) ∷ check NoLine (misnames (m .arity (r .kind)) (length ws) r) ∷ check Twice (repeats (named m r)) ∷ check Full room ∷ []) p in
+    let b = first-none NoKind (eqb (m .arity (r .kind)) 0) (check NoLine (misnames (m .arity (r .kind)) (length ws) r) ∷ check Twice (repeats (named m r)) ∷ check Full room ∷ []) (a .1) in
+    let c = first-none NoLine (misnames (m .arity (r .kind)) (length ws) r) (check Twice (repeats (named m r)) ∷ check Full room ∷ []) (b .1) in
     let d = first-none Twice (repeats (named m r)) (check Full room ∷ []) (c .1) in
     let e = first-none Full room [] (d .1) in
     let f : (m .arity (r .kind) ≡ 0 → ⊥) = eqb-false (m .arity (r .kind)) 0 (b .0) in
-    let q = or-parts (some-of (no-line ws) (named m r)) (eqb (m .arity (r .kind)) 2 && not (eqb (r .c) 0)) (c .0) in
+    let q = or-parts (some-of (no-line (length ws)) (named m r)) (eqb (m .arity (r .kind)) 2 && not (eqb (r .c) 0)) (c .0) in
     record {
       fits = record {
         kind-there = omega arith;
-        lines-there = every-map (λ k. no-line ws k ≡ false) (Is-line (length ws)) (is-line ws) (named m r) (some-of-false (no-line ws) (named m r) (q .0));
+        lines-there = every-map (λ k. no-line (length ws) k ≡ false) (Is-line (length ws)) (is-line (length ws)) (named m r) (some-of-false (no-line (length ws)) (named m r) (q .0));
         different = d .0;
         no-third = no-third-named (m .arity (r .kind)) (r .c) (q .1);
       };
@@ -114,11 +115,11 @@ unfolding verdict checks
 pinch-taken m id s k lo hi p =
     let ws = s .core .windows in
     let v = cut (window ws k) lo hi in
-    let a = first-none IsBarren (is-barren (s .core .state)) (check NoLine (no-line ws k) ∷ check Ends (bad-ends m lo hi) ∷ check Empties (is-empty v) ∷ []) p in
-    let b = first-none NoLine (no-line ws k) (check Ends (bad-ends m lo hi) ∷ check Empties (is-empty v) ∷ []) (a .1) in
-    let c = first-none Ends (bad-ends m lo hi) (check Empties (is-empty v) ∷ []) (b .1) in
+    let a = first-none IsBarren (is-barren (s .core .state)) (check NoLine (no-line (length ws) k) ∷ check Ends (bad-ends (m .top) lo hi) ∷ check Empties (is-empty v) ∷ []) p in
+    let b = first-none NoLine (no-line (length ws) k) (check Ends (bad-ends (m .top) lo hi) ∷ check Empties (is-empty v) ∷ []) (a .1) in
+    let c = first-none Ends (bad-ends (m .top) lo hi) (check Empties (is-empty v) ∷ []) (b .1) in
     let d = first-none Empties (is-empty v) [] (c .1) in
-    record { there = is-line ws k (b .0); leaves = ltb-false (v .hi) (v .lo) (d .0) }
+    record { there = is-line (length ws) k (b .0); leaves = ltb-false (v .hi) (v .lo) (d .0) }
 
 -- An accepted open.
 pub open-taken : (m : Meaning) (id : ℕ) (s : Model) → verdict m id s Call.Open ≡ None → length (s .saved) < most-tries
@@ -129,11 +130,11 @@ open-taken m id s p =
     leb-false most-tries (length (s .saved)) (b .0)
 
 -- A right ticket: a try is open.
-right-ticket : (id : ℕ) (s : Model) (number depth : ℕ) → wrong-ticket id s number depth ≡ false → 0 < length (s .saved)
-right-ticket id s number depth p =
-    let a = or-parts (not (eqb number id)) (not (eqb depth (length (s .saved))) || eqb depth 0) p in
-    let b = or-parts (not (eqb depth (length (s .saved)))) (eqb depth 0) (a .1) in
-    let e : depth ≡ length (s .saved) = eqb-true depth (length (s .saved)) (not-false (eqb depth (length (s .saved))) (b .0)) in
+right-ticket : (id n number depth : ℕ) → wrong-ticket id n number depth ≡ false → 0 < n
+right-ticket id n number depth p =
+    let a = or-parts (not (eqb number id)) (not (eqb depth n) || eqb depth 0) p in
+    let b = or-parts (not (eqb depth n)) (eqb depth 0) (a .1) in
+    let e : depth ≡ n = eqb-true depth n (not-false (eqb depth n) (b .0)) in
     let f : (depth ≡ 0 → ⊥) = eqb-false depth 0 (b .1) in
     omega arith
 
@@ -141,8 +142,8 @@ right-ticket id s number depth p =
 pub strike-taken : (m : Meaning) (id : ℕ) (s : Model) (number depth : ℕ) → verdict m id s (Call.Strike number depth) ≡ None → 0 < length (s .saved)
 unfolding verdict checks
 strike-taken m id s number depth p =
-    let a = first-none WrongTicket (wrong-ticket id s number depth) [] p in
-    right-ticket id s number depth (a .0)
+    let a = first-none WrongTicket (wrong-ticket id (length (s .saved)) number depth) [] p in
+    right-ticket id (length (s .saved)) number depth (a .0)
 
 -- An accepted settle ends one way.
 settles-once :

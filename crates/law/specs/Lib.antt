@@ -10,3 +10,4 @@ pub mod Sound
 pub mod Law
 pub mod WorkedHistories
 pub mod WorkedRefusals
+pub mod Faults

@@ -45,8 +45,11 @@ abbrev pub window : List Span → ℕ → Span
 window ws k = getD ws (k - 1) nowhere
 
 -- The numbers of the lines that a rule names: as many as its kind says.
+abbrev pub named-by : ℕ → Rule → List ℕ
+named-by arity r = take arity (r .a ∷ r .b ∷ r .c ∷ [])
+
 abbrev pub named : Meaning → Rule → List ℕ
-named m r = take (m .arity (r .kind)) (r .a ∷ r .b ∷ r .c ∷ [])
+named m r = named-by (m .arity (r .kind)) r
 
 -- The windows of the lines that a rule names.
 abbrev pub windows-of : Meaning → List Span → Rule → List Span

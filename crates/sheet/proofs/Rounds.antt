@@ -16,7 +16,9 @@ use Rattle.law.specs.Runs.{Ending, standing, spent, barren, Has-none, Still, Na
 use Rattle.law.specs.Runs.Run.{none, still, narrows, too-many, next-round, quiet}
 use Rattle.law.specs.Sound.{Fits, Fit-rule}
 use Rattle.law.proofs.Endings.{Good, good-narrowed}
-use Rattle.sheet.specs.Rounds.{Fit-try, Ready}
+use Rattle.law.specs.declared.calls.Answer.{Answer}
+use Rattle.sheet.specs.declared.settled.Settled.{Settled}
+use Rattle.sheet.specs.Rounds.{Ended, Finished, Fit-try, Ready}
 
 -- What stands past the last rule.
 abbrev no-rule : Rule
@@ -75,9 +77,9 @@ module _ (m : Meaning) (rules : List Rule) (n : ℕ) where
               rules-fit = subst (λ (k : ℕ). Every (Fit-rule m k) rules) (sym (good .sized)) (g .ready .rules-fit);
             };
             on = λ e k.
-              let next : Run m rules n (drop (i + 1) rules) (suc (suc i)) true (suc c) (put (named m r) us ws) e =
-                  subst (λ (d : ℕ). Run m rules n (drop (i + 1) rules) (suc (suc i)) true d (put (named m r) us ws) e) (add-one c) (onward true (c + 1) (put (named m r) us ws) e k) in
-              tried g e (narrows h room next);
+                let next : Run m rules n (drop (i + 1) rules) (suc (suc i)) true (suc c) (put (named m r) us ws) e =
+                subst (λ (d : ℕ). Run m rules n (drop (i + 1) rules) (suc (suc i)) true d (put (named m r) us ws) e) (add-one c) (onward true (c + 1) (put (named m r) us ws) e k) in
+                tried g e (narrows h room next);
           }
 
       -- a narrowing for which there is no room: the run ends spent
@@ -92,3 +94,9 @@ module _ (m : Meaning) (rules : List Rule) (n : ℕ) where
       -- else another round follows
       pub goes-round : Going c₀ ws₀ i true c ws → (e : Ending) → Run m rules n rules 1 false c ws e → Run m rules n rules 1 false c₀ ws₀ e
       goes-round g e h = g .on e (subst (λ (todo : List Rule). Run m rules n todo (suc i) true c ws e) (sym (drop-all i rules over)) (next-round h))
+
+-- A run that did not end barren leaves its windows.
+pub finished-unless-barren : (m : Meaning) (rules : List Rule) (n : ℕ) (ws vs : List Span) (r : Settled) → ((k : ℕ) → r ≡ Settled.Barren k → ⊥) → Ended m rules n ws vs r → Finished m rules n ws vs r
+finished-unless-barren m rules n ws vs (Settled.Standing c) other h = record { ending = standing c vs; ends = h; leaves = refl; says = refl }
+finished-unless-barren m rules n ws vs (Settled.Spent k) other h = record { ending = spent vs; ends = h .0; leaves = refl; says = ap Answer.Spent (h .1) }
+finished-unless-barren m rules n ws vs (Settled.Barren k) other h = absurd (other k refl)

@@ -1,3 +1,6 @@
+pub mod Answers
+pub mod Edits
 pub mod Marks
 pub mod Rounds
+pub mod States
 pub mod Views

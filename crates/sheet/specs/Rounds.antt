@@ -10,13 +10,16 @@ use mathlib.Core.Path.{_≡_}
 use lib.ListN.{length}
 use Rattle.windows.specs.Spans.{Span, Every}
 use Rattle.windows.specs.Meanings.{Counts, Meaning}
+use Rattle.law.specs.declared.calls.Answer.{Answer}
 use Rattle.law.specs.declared.calls.Rule.{Rule}
+use Rattle.law.specs.declared.calls.State.{State}
 use Rattle.law.specs.Sheets.{named, put}
 use Rattle.law.specs.Runs.{Ending, standing, spent, barren, Has-none, Still, Narrows, Run, Ends-with}
+use Rattle.law.specs.Steps.{told}
 use Rattle.law.specs.Sound.{Fits, Fit-rule}
 use Rattle.sheet.specs.declared.run.Attempt.{Attempt}
 use Rattle.sheet.specs.declared.run.Round.{Round}
-use Rattle.sheet.specs.declared.run.Settled.{Settled}
+use Rattle.sheet.specs.declared.settled.Settled.{Settled}
 
 -- The meaning of a book.
 abbrev pub meaning : (top : ℕ) (arity : ℕ → ℕ) → Counts arity → (ℕ → List ℕ → Type 0) → Meaning
@@ -58,3 +61,27 @@ abbrev pub Ended : Meaning → List Rule → ℕ → List Span → List Span →
 Ended m rules n ws vs (Settled.Standing c) = Ends-with m rules n ws (standing c vs)
 Ended m rules n ws vs (Settled.Spent k) = Ends-with m rules n ws (spent vs) × (k ≡ n)
 Ended m rules n ws vs (Settled.Barren k) = Ends-with m rules n ws (barren k)
+
+-- The answer that a settle gives, and the state that it leaves.
+abbrev pub answered : Settled → Answer
+answered (Settled.Standing c) = Answer.Standing c
+answered (Settled.Spent n) = Answer.Spent n
+answered (Settled.Barren k) = Answer.Barren k
+
+abbrev pub left-in : Settled → State
+left-in (Settled.Standing c) = State.Standing
+left-in (Settled.Spent n) = State.Unsettled
+left-in (Settled.Barren k) = State.Barren
+
+-- The windows that an ending leaves, of those that the run began with.
+abbrev pub left-by : List Span → Ending → List Span
+left-by ws (standing c vs) = vs
+left-by ws (spent vs) = vs
+left-by ws (barren k) = ws
+
+-- From ws to vs by a settle: as its run ends; where it ends barren, the windows are as before.
+pub record Finished (m : Meaning) (rules : List Rule) (n : ℕ) (ws vs : List Span) (r : Settled) : Type 0 where
+  pub ending : Ending
+  pub ends : Ends-with m rules n ws ending
+  pub leaves : vs ≡ left-by ws ending
+  pub says : answered r ≡ told n ending

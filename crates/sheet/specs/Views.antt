@@ -20,4 +20,4 @@ core t = record { state = t .state; windows = map span (vec-items (t .lines)); r
 
 -- The sheet: its core, and the cores found by the opens of its tries, innermost first.
 abbrev pub model : Tables → Model
-model t = record { core = core t; saved = map (found (vec-items (t .rules))) (reverse (vec-items (t .tries))) }
+model t = record { core = core t; saved = reverse (map (found (vec-items (t .rules))) (vec-items (t .tries))) }

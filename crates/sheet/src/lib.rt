@@ -2,4 +2,9 @@
 mod mark;
 mod place;
 mod run;
+pub mod settled;
+pub mod sheet;
+mod snapshot;
+mod state;
 mod tables;
+pub mod ticket;

@@ -1,12 +1,11 @@
 //! Windows by the numbers of their lines.
-ghost use Prim.Native.Nat.{_-_};
+ghost use Prim.Native.Nat.{_-_, max, min};
 ghost use lib.ListN.{set};
-ghost use mathlib.Core.Bool.{true};
 ghost use mathlib.Core.List.{[], _∷_, map};
 ghost use mathlib.Core.Path.{_≡_};
 ghost use Rattle.books.specs.Narrowings.{spans};
 ghost use Rattle.law.specs.Sheets.{window};
-ghost use Rattle.windows.specs.Windows.{span};
+ghost use Rattle.windows.specs.Windows.{span, spanning};
 use books::narrowing::Triple;
 use law::calls::Rule;
 use windows::window::Window;
@@ -42,4 +41,11 @@ pub fn put_at(lines: &mut [Window], k: u32, w: Window)
     if i < lines.len() {
         lines[i] = w;
     }
+}
+
+/// What lies in the window and in `lo` to `hi` as well, where anything does.
+pub fn cut_down(present: Window, lo: u32, hi: u32) -> Window
+    ensures { λ r. ⌜ span r ≡ spanning (max (present .lo) lo) (min (present .hi) hi) ⌝ }
+{
+    Window::spanning(present.lo().max(lo), present.hi().min(hi))
 }

@@ -7,10 +7,14 @@ ghost use mathlib.Core.Logic.{_⊎_};
 ghost use mathlib.Core.Path.{_≡_};
 ghost use Rattle.books.specs.Narrowings.{read, spans};
 ghost use Rattle.law.specs.Sheets.{put};
-ghost use Rattle.sheet.specs.Rounds.{Attempted, Counted, Ended, Fit-try, Ready, Rounded, meaning};
+ghost use Rattle.sheet.specs.Rounds.{Attempted, Counted, Ended, Finished, Fit-try, Ready, Rounded, meaning};
+ghost use Rattle.std.specs.Of.Vec.{vec-cap, vec-items, vec-len};
 ghost use Rattle.windows.specs.Windows.{span};
 use crate::place::put_at;
 use crate::place::windows_of;
+use crate::settled::Settled;
+use crate::snapshot::bring_back;
+use crate::snapshot::snapshot;
 use books::book::Book;
 use books::narrowing::Narrowing;
 use books::narrowing::Triple;
@@ -39,17 +43,6 @@ pub enum Round {
     Moved(u32),
     /// A narrowing was left undone.
     Spent,
-    /// The rule of this number has no choice.
-    Barren(u32),
-}
-
-/// How a settle ended.
-#[derive(Clone, Copy)]
-pub enum Settled {
-    /// No rule closes the windows further; after so many narrowings.
-    Standing(u32),
-    /// The allowance, which was used up.
-    Spent(u32),
     /// The rule of this number has no choice.
     Barren(u32),
 }
@@ -124,7 +117,11 @@ fn play_round<B: Book>(book: &B, rules: &[Rule], lines: &mut [Window], n: u32, s
             Attempt::LeftUndone => return Round::Spent,
         }
     }
-    if quiet { Round::Quiet } else { Round::Moved(count) }
+    if quiet {
+        Round::Quiet
+    } else {
+        Round::Moved(count)
+    }
 }
 
 /// The run of settle with an allowance of `n` narrowings. Where it ends barren, the windows are left as they came to be.
@@ -142,4 +139,26 @@ pub fn run<B: Book>(book: &B, rules: &[Rule], lines: &mut [Window], n: u32) -> S
             Round::Barren(rule) => return Settled::Barren(rule),
         }
     }
+}
+
+/// Settles the windows of `lines`: where the run ends barren, they are brought back as they were.
+pub fn settle_lines<B: Book>(
+    book: &B,
+    rules: &Vec<Rule>,
+    lines: &mut Vec<Window>,
+    n: u32,
+) -> Settled
+    requires { ⌜ vec-len (now rules) ≤ 128 ⌝ ∗ ⌜ vec-len (now lines) ≤ 64 ⌝ ∗ ⌜ 64 ≤ vec-cap (now lines) ⌝ }
+    ensures len { λ _. ⌜ vec-len (now (lines .exit)) ≡ vec-len (now (lines .entry)) ⌝ }
+    ensures capacity { λ _. ⌜ vec-cap (now (lines .exit)) ≡ vec-cap (now (lines .entry)) ⌝ }
+    ensures finished { λ r. ⌜ (Ready (meaning top arity counts (related (now (book .entry)))) (vec-items (now (rules .entry))) (map span (vec-items (now (lines .entry))))
+        → Finished (meaning top arity counts (related (now (book .entry)))) (vec-items (now (rules .entry))) n (map span (vec-items (now (lines .entry)))) (map span (vec-items (now (lines .exit)))) r) ⌝ }
+{
+    let before = snapshot(lines);
+    let count = lines.len();
+    let settled = run(book, rules.as_slice(), lines.as_mut_slice(), n);
+    if let Settled::Barren(_) = settled {
+        bring_back(lines, &before, count);
+    }
+    settled
 }

@@ -7,6 +7,11 @@ use law::calls::Rule;
 use law::calls::State;
 use windows::window::Window;
 
+mod edits;
+mod faults;
+
+pub use faults::no_line;
+
 #[derive(Drop)]
 pub struct Tables {
     pub state: State,

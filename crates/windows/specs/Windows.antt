@@ -1,6 +1,6 @@
 -- Windows as the code holds them, by their spans.
 -- Assumes nothing.
-use Prim.Native.Nat.{ℕ}
+use Prim.Native.Nat.{ℕ, max, min}
 use mathlib.Core.Bool.{cond}
 use lib.Dec.{leb}
 use Rattle.std.specs.declared.option.Option.{Option}
@@ -19,3 +19,7 @@ spanned lo hi = cond (leb lo hi) (Some (record { lo = lo; hi = hi })) None
 -- The ends of a window that holds one code.
 abbrev pub single : ℕ → Span
 single code = record { lo = code; hi = code }
+
+-- The ends of the window from the lesser to the greater of two codes.
+abbrev pub spanning : ℕ → ℕ → Span
+spanning x y = record { lo = min x y; hi = max x y }

@@ -1,7 +1,7 @@
 //! Making and reading windows.
 ghost use mathlib.Core.Path.{_≡_};
 ghost use Rattle.std.specs.Options.{mapped};
-ghost use Rattle.windows.specs.Windows.{single, span, spanned};
+ghost use Rattle.windows.specs.Windows.{single, span, spanned, spanning};
 use super::Window;
 
 impl Window {
@@ -13,6 +13,17 @@ impl Window {
             Some(Window { lo, hi })
         } else {
             None
+        }
+    }
+
+    /// The window from the lesser to the greater of two codes.
+    pub fn spanning(x: u32, y: u32) -> Window
+        ensures { λ r. ⌜ span r ≡ spanning x y ⌝ }
+    {
+        if x <= y {
+            Window { lo: x, hi: y }
+        } else {
+            Window { lo: y, hi: x }
         }
     }
 

@@ -1,3 +1,4 @@
+-- Each kind's box is made by its own closer; the answer is told of the kind at hand.
 use Prim.Native.Nat.{ℕ, min}
 use native.Mathlib.Omega.{arith}
 use mathlib.Core.List.{List, [], _∷_}
@@ -12,17 +13,18 @@ use Rattle.books.specs.Kinds.{Made, Meets, lines}
 use Rattle.books.specs.Narrowings.{Closing}
 use Rattle.books.proofs.close.close.Needs as need
 
--- what is closed for a kind is closed for a kind that equals it
+-- What is closed for a kind is closed for a kind that equals it.
 moved : (p s : ℕ → ℕ → ℕ) (top : ℕ) (k k' : Kind) (ws : List Span) (r : Option Triple) → k ≡ k' → Closing (lines k') (Meets p s top k') ws r → Closing (lines k) (Meets p s top k) ws r
 moved p s top k k' ws r e h = subst (λ (j : Kind). Closing (lines j) (Meets p s top j) ws r) (sym e) h
 
+-- Travel by the drive's product, sum by its sum.
 pub returns-in-Travel : need.returns-in-Travel
 returns-in-Travel g c = moved _ _ _ _ _ _ _ (c .in-Travel .is) (c .by-operation .ensures)
 
 pub returns-in-Sum : need.returns-in-Sum
 returns-in-Sum g c = moved _ _ _ _ _ _ _ (c .in-Sum .is) (c .by-operation-in-Sum .ensures)
 
--- a top up to 65535 is not cut
+-- Later by the greater code: a top up to 65535 is not cut.
 pub returns-in-Later : need.returns-in-Later
 returns-in-Later g c =
     let same : c .new .result .top ≡ c .args .top = omega arith in
