@@ -11,5 +11,5 @@ abbrev pub sheet : State → List Span → List Rule → List Core → Model
 sheet state ws rs saved = record { core = record { state = state; windows = ws; rules = rs }; saved = saved }
 
 -- Equal parts make equal sheets.
-pub same-sheet : (state : State) (ws vs : List Span) (rs qs : List Rule) (saved kept : List Core) → ws ≡ vs → rs ≡ qs → saved ≡ kept → sheet state ws rs saved ≡ sheet state vs qs kept
-same-sheet state ws vs rs qs saved kept p q s = λ i. sheet state (p i) (q i) (s i)
+pub same-sheet : (s s' : State) (ws vs : List Span) (rs qs : List Rule) (saved kept : List Core) → s ≡ s' → ws ≡ vs → rs ≡ qs → saved ≡ kept → sheet s ws rs saved ≡ sheet s' vs qs kept
+same-sheet s s' ws vs rs qs saved kept o p q k = λ i. sheet (o i) (p i) (q i) (k i)

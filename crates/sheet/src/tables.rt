@@ -10,8 +10,6 @@ use windows::window::Window;
 mod edits;
 mod faults;
 
-pub use faults::no_line;
-
 #[derive(Drop)]
 pub struct Tables {
     pub state: State,

@@ -12,9 +12,7 @@ ghost use Rattle.std.specs.Of.Vec.{vec-items, vec-len};
 ghost use Rattle.std.specs.Vec.{made};
 ghost use Rattle.windows.specs.Windows.{span};
 use super::Sheet;
-use crate::place::window_at;
 use crate::tables::Tables;
-use crate::tables::no_line;
 use books::book::Book;
 use law::calls::Refusal;
 use law::calls::Rule;
@@ -27,6 +25,16 @@ impl<B: Book + Drop> Sheet<B> {
     /// An empty sheet of this number, unsettled. The room for 64 lines, 128 rules and 8 tries is reserved here, so that no
     /// later call can want memory.
     pub fn new(heap: Global, number: u32, book: B) -> Result<Sheet<B>, AllocError>
+        ensures empty { λ r. ⌜ made r (λ s. model (s .tables) ≡ empty) ⌝ }
+        ensures number { λ r. ⌜ made r (λ s. s .number ≡ number) ⌝ }
+        ensures book { λ r. ⌜ made r (λ s. s .book ≡ book) ⌝ }
+        ensures reached { λ r. ⌜ made r (λ s. Reached (meaning top arity counts (related book)) number [] (model (s .tables))) ⌝ }
+    {
+        Sheet::set_up(heap, number, book)
+    }
+
+    /// The same: the empty list of calls leads to the empty sheet.
+    fn set_up(heap: Global, number: u32, book: B) -> Result<Sheet<B>, AllocError>
         ensures empty { λ r. ⌜ made r (λ s. model (s .tables) ≡ empty) ⌝ }
         ensures number { λ r. ⌜ made r (λ s. s .number ≡ number) ⌝ }
         ensures book { λ r. ⌜ made r (λ s. s .book ≡ book) ⌝ }
@@ -46,11 +54,7 @@ impl<B: Book> Sheet<B> {
     pub fn window(&self, line: u32) -> Result<Window, Refusal>
         ensures { λ r. ⌜ Read (model (now (self .entry) .tables)) line r ⌝ }
     {
-        if no_line(self.tables.line_count(), line) {
-            Err(Refusal::NoLine)
-        } else {
-            Ok(window_at(self.tables.lines.as_slice(), line))
-        }
+        self.tables.read_window(line)
     }
 
     /// The state.

@@ -92,6 +92,13 @@ impl<B: Book + Drop> Replay<B> {
     pub fn of(heap: Global, number: u32, book: B, calls: &[Call]) -> Result<Replay<B>, AllocError>
         ensures { λ r. ⌜ made r (λ p. Played (meaning top arity counts (related book)) number (now (calls .entry)) (vec-items (p .answers)) (model (p .sheet .tables))) ⌝ }
     {
+        Replay::played(heap, number, book, calls)
+    }
+
+    /// The same, call by call.
+    fn played(heap: Global, number: u32, book: B, calls: &[Call]) -> Result<Replay<B>, AllocError>
+        ensures { λ r. ⌜ made r (λ p. Played (meaning top arity counts (related book)) number (now (calls .entry)) (vec-items (p .answers)) (model (p .sheet .tables))) ⌝ }
+    {
         let mut sheet = Sheet::new(heap, number, book)?;
         let mut answers = Vec::new(heap);
         for call in calls {

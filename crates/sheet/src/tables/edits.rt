@@ -1,5 +1,6 @@
 //! What accepted calls do to the tables.
-ghost use Prim.Native.Nat.{_<_};
+ghost use Prim.Native.Nat.{_+_, _-_, _<_, _≤_};
+ghost use lib.ListN.{take};
 ghost use mathlib.Core.List.{[], _++_, _∷_};
 ghost use mathlib.Core.Path.{_≡_};
 ghost use Rattle.law.specs.Sheets.{empty};
@@ -8,7 +9,7 @@ ghost use Rattle.law.specs.Steps.{Settles, with-core};
 ghost use Rattle.sheet.specs.Edits.{kept-as, lined-as, opened-as, pinched-as, ruled-as, struck-as};
 ghost use Rattle.sheet.specs.Rounds.{answered, meaning};
 ghost use Rattle.sheet.specs.Views.{core, found, model};
-ghost use Rattle.std.specs.Of.Vec.{vec-items, vec-len};
+ghost use Rattle.std.specs.Of.Vec.{vec-cap, vec-items, vec-len};
 ghost use Rattle.std.specs.Vec.{made};
 ghost use Rattle.windows.specs.Windows.{span};
 use super::Tables;
@@ -18,6 +19,8 @@ use crate::run::settle_lines;
 use crate::settled::Settled;
 use crate::snapshot::bring_back;
 use crate::snapshot::snapshot;
+use crate::state::Event;
+use crate::state::next_state;
 use books::book::Book;
 use law::calls::Rule;
 use law::calls::State;
@@ -100,10 +103,34 @@ impl Tables {
         ensures { λ _. ⌜ model (now (self .exit)) ≡ struck-as (model (now (self .entry))) ⌝ }
     {
         if let Some(mark) = self.tries.pop() {
-            bring_back(&mut self.lines, &mark.windows, mark.lines);
-            self.rules.truncate(mark.rules);
-            self.state = mark.state;
+            self.state = bring_mark_back(&mut self.lines, &mut self.rules, self.state, &mark);
         }
+    }
+}
+
+/// Brings back the windows and rules of a mark, and answers the state that follows: the one that its open found.
+fn bring_mark_back(lines: &mut Vec<Window>, rules: &mut Vec<Rule>, state: State, mark: &Mark) -> State
+    requires { ⌜ 64 ≤ vec-cap (now lines) ⌝ }
+    ensures state { λ r. ⌜ r ≡ now (mark .entry) .state ⌝ }
+    ensures lines { λ _. ⌜ vec-items (now (lines .exit)) ≡ take (now (mark .entry) .lines) (now (mark .entry) .windows) ⌝ }
+    ensures line_count { λ _. ⌜ vec-len (now (lines .exit)) ≡ now (mark .entry) .lines ⌝ }
+    ensures line_room { λ _. ⌜ vec-cap (now (lines .exit)) ≡ vec-cap (now (lines .entry)) ⌝ }
+    ensures rules { λ _. ⌜ vec-items (now (rules .exit)) ≡ take (now (mark .entry) .rules) (vec-items (now (rules .entry))) ⌝ }
+    ensures rule_count { λ _. ⌜ vec-len (now (rules .exit)) + (vec-len (now (rules .entry)) - now (mark .entry) .rules) ≡ vec-len (now (rules .entry)) ⌝ }
+    ensures rule_room { λ _. ⌜ vec-cap (now (rules .exit)) ≡ vec-cap (now (rules .entry)) ⌝ }
+{
+    bring_back(lines, &mark.windows, mark.lines);
+    rules.truncate(mark.rules);
+    after_strike(state, mark.state)
+}
+
+/// The state after a strike: the one that its open found, whatever it was before.
+fn after_strike(state: State, found: State) -> State
+    ensures { λ r. ⌜ r ≡ found ⌝ }
+{
+    match next_state(state, Event::Restore(found)) {
+        Ok(next) => next,
+        Err(_) => found,
     }
 }
 

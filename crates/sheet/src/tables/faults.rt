@@ -1,11 +1,13 @@
 //! The cases in which calls are turned away, after the sheet's state.
-ghost use Prim.Native.Nat.{ℕ};
+ghost use lib.ListN.{length};
 ghost use mathlib.Core.List.{map};
 ghost use mathlib.Core.Logic.{_⊎_};
 ghost use mathlib.Core.Path.{_≡_};
 ghost use Rattle.law.specs.Faults.{fault};
 ghost use Rattle.law.specs.Sheets.{named-by, window};
 ghost use Rattle.law.specs.Table.{first, line-cases, misnames, no-line, open-cases, pinch-cases, repeats, rule-cases, ticket-cases};
+ghost use Rattle.sheet.specs.Answers.{Read};
+ghost use Rattle.sheet.specs.Views.{model};
 ghost use Rattle.std.specs.Of.Vec.{vec-items, vec-len};
 ghost use Rattle.windows.specs.Windows.{span};
 use super::Tables;
@@ -14,9 +16,10 @@ use law::calls::Refusal;
 use law::calls::Rule;
 use law::table::Check;
 use law::table::first_fault;
+use windows::window::Window;
 
 /// Whether no line has the number `k`, where there are `lines`.
-pub fn no_line(lines: u32, k: u32) -> bool
+fn no_line(lines: u32, k: u32) -> bool
     ensures { λ r. ⌜ r ≡ no-line lines k ⌝ }
 {
     (k == 0) | (lines < k)
@@ -49,7 +52,8 @@ fn repeated(arity: u32, rule: Rule) -> bool
 impl Tables {
     /// How many lines there are.
     pub fn line_count(&self) -> u32
-        ensures { λ r. ⌜ r ≡ vec-len (now (self .entry) .lines) ⌝ }
+        ensures len { λ r. ⌜ r ≡ vec-len (now (self .entry) .lines) ⌝ }
+        ensures windows { λ r. ⌜ r ≡ length (model (now (self .entry)) .core .windows) ⌝ }
     {
         self.lines.len() as u32
     }
@@ -63,9 +67,21 @@ impl Tables {
 
     /// How many tries are open.
     pub fn try_count(&self) -> u32
-        ensures { λ r. ⌜ r ≡ vec-len (now (self .entry) .tries) ⌝ }
+        ensures len { λ r. ⌜ r ≡ vec-len (now (self .entry) .tries) ⌝ }
+        ensures saved { λ r. ⌜ r ≡ length (model (now (self .entry)) .saved) ⌝ }
     {
         self.tries.len() as u32
+    }
+
+    /// The window of a line, if there is such a line.
+    pub fn read_window(&self, k: u32) -> Result<Window, Refusal>
+        ensures { λ r. ⌜ Read (model (now (self .entry))) k r ⌝ }
+    {
+        if no_line(self.line_count(), k) {
+            Err(Refusal::NoLine)
+        } else {
+            Ok(window_at(self.lines.as_slice(), k))
+        }
     }
 
     /// The cases of a line, up to the code `top`.

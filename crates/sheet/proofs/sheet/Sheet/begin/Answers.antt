@@ -56,7 +56,7 @@ returns g c =
     let id : ℕ = c .args .self .now .number in
     let t = c .args .self .now .tables in
     let free = open-cleared t m id _ (sym (c .in-Continue-next-state .ensures tt)) ∙ sym (c .in-Continue-check-open .ensures tt) in
-    let depth : c .try-count .result ≡ length (model t .saved) + 1 = c .try-count .ensures ∙ opened-depth (c .begin-try .last .self) t (c .begin-try .ensures) in
+    let depth : c .try-count .result ≡ length (model t .saved) + 1 = c .try-count .ensures .len ∙ opened-depth (c .begin-try .last .self) t (c .begin-try .ensures) in
     record {
       called = taken m id (model t) Call.Open (model (c .begin-try .last .self)) (Answer.Opened id (c .try-count .result)) free (c .begin-try .ensures, ap (Answer.Opened id) depth);
       number = refl;

@@ -60,7 +60,7 @@ returns g c =
     let next = unsettled (t .state) _ (sym (c .in-Continue-next .ensures tt)) in
     let made = c .spanning .ensures ∙ spanning-is (c .args .lo) (c .args .hi) (within .ordered) in
     let after = c .add-line .ensures ∙ ap₂ (λ (s : State) (w : Span). with-core (model t) (lined-as s (core t) w)) next made in
-    let number : c .line-count .result ≡ length (model t .core .windows) + 1 = c .line-count .ensures ∙ grown (c .add-line .last .self) t State.Unsettled (between (c .args .lo) (c .args .hi)) after in
+    let number : c .line-count .result ≡ length (model t .core .windows) + 1 = c .line-count .ensures .len ∙ grown (c .add-line .last .self) t State.Unsettled (between (c .args .lo) (c .args .hi)) after in
     record {
       called = taken m id (model t) (Call.Line (c .args .lo) (c .args .hi)) (model (c .add-line .last .self)) (Answer.Numbered (c .line-count .result)) free (after, ap Answer.Numbered number);
       number = refl;

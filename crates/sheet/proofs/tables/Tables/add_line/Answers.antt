@@ -8,6 +8,6 @@ use Rattle.sheet.proofs.tables.Tables.add_line.Needs as need
 
 pub returns : need.returns
 returns c =
-    same-sheet _ _ _ _ _ _ _
+    same-sheet _ _ _ _ _ _ _ _ refl
     (ap (map span) (c .push-reserved .ensures .items) ∙ map-push span (vec-items (c .args .self .now .lines)) (c .args .window))
     refl refl

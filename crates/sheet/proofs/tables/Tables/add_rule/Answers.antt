@@ -23,6 +23,6 @@ pub returns : need.returns
 returns c =
     let old = c .args .self .now in
     let more = c .push-reserved .ensures .items in
-    same-sheet _ _ _ _ _ _ _ refl more
+    same-sheet _ _ _ _ _ _ _ _ refl refl more
     (ap reverse (ap (λ (rs : List Rule). map (found rs) (vec-items (old .tries))) more
     ∙ found-rule (vec-items (old .rules)) (c .args .rule) (vec-items (old .tries)) (subst (λ (n : ℕ). Nested n (vec-items (old .tries))) (old .rules .ok .0) (old .nested))))

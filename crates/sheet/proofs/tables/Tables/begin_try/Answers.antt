@@ -26,7 +26,7 @@ pub returns : need.returns
 returns c =
     let old = c .args .self .now in
     let mark = c .mark-mark .result in
-    same-sheet _ _ _ _ _ _ _ refl refl
+    same-sheet _ _ _ _ _ _ _ _ refl refl refl
     (ap (λ (ms : List Mark). reverse (map (found (vec-items (old .rules))) ms)) (c .push-reserved .ensures .items)
     ∙ saved-push (found (vec-items (old .rules))) (vec-items (old .tries)) mark
     ∙ ap (λ (k : Core). k ∷ reverse (map (found (vec-items (old .rules))) (vec-items (old .tries)))) (c .mark-mark .ensures .core))

@@ -18,6 +18,6 @@ ghost-self c =
 pub returns : need.returns
 returns c =
     let old = c .args .self .now in
-    same-sheet _ _ _ _ _ _ _ refl refl
+    same-sheet _ _ _ _ _ _ _ _ refl refl refl
     (saved-pop (found (vec-items (old .rules))) (vec-items (old .tries)) (vec-items (c .pop .last .self)) (c .pop .result) (c .pop .ensures .items)
     (c .pop .ensures .test ∙ ap (λ (n : ℕ). ltb 0 n) (old .tries .ok .0)))

@@ -10,7 +10,7 @@ use Rattle.sheet.proofs.tables.Tables.set_window.Needs as need
 
 pub returns : need.returns
 returns c =
-    same-sheet _ _ _ _ _ _ _
+    same-sheet _ _ _ _ _ _ _ _ refl
     (ap (map span) (refilled-is (c .args .self .now .lines) (c .put-at .last .lines) (c .put-at .kept .lines ∙ c .as-mut-slice .ensures .len))
     ∙ c .put-at .ensures
     ∙ ap (λ (xs : List Window). set (map span xs) (c .args .k - 1) (span (c .args .window))) (c .as-mut-slice .ensures .value))

@@ -23,9 +23,9 @@ ghost-self c =
     let mark = c .in-Some .mark in
     let all = subst (Nested (vec-len (old .rules))) (c .in-Some .ensures tt .items) (old .nested) in
     let few : mark .rules ≤ vec-len (old .rules) = last-up-to (vec-len (old .rules)) (vec-items (c .pop .last .self)) mark all in
-    let count : vec-len (c .truncate .last .self) ≡ mark .rules = omega (arith, c .truncate .ensures .len) in
+    let count : vec-len (c .bring-mark-back-self .last .rules) ≡ mark .rules = omega (arith, c .bring-mark-back-self .ensures .rule-count) in
     let nest = subst (λ (n : ℕ). Nested n (vec-items (c .pop .last .self))) (sym count) (nested-strike (vec-len (old .rules)) (vec-items (c .pop .last .self)) mark all) in
-    (omega (arith, c .bring-back .ensures .len, mark .few), (omega arith, (omega (arith, c .in-Some .ensures tt .len), (search needs, (search needs, (search needs, (nest, tt)))))))
+    (omega (arith, c .bring-mark-back-self .ensures .line-count, mark .few), (omega arith, (omega (arith, c .in-Some .ensures tt .len), (search needs, (search needs, (search needs, (nest, tt)))))))
 
 -- the innermost mark's core is back, and the other marks bring back what they did
 pub returns-in-Some : need.returns-in-Some
@@ -37,8 +37,8 @@ returns-in-Some c =
     let all = subst (Nested (vec-len (old .rules))) (c .in-Some .ensures tt .items) (old .nested) in
     let saved : reverse (map (found rules) (vec-items (old .tries))) ≡ found rules mark ∷ reverse (map (found rules) rest) =
     ap (λ (ms : List Mark). reverse (map (found rules) ms)) (c .in-Some .ensures tt .items) ∙ saved-push (found rules) rest mark in
-    same-sheet _ _ _ _ _ _ _
-    (ap (map span) (c .bring-back .ensures .items))
-    (c .truncate .ensures .items)
-    (ap reverse (ap (λ (rs : List Rule). map (found rs) rest) (c .truncate .ensures .items) ∙ found-strike rules (mark .rules) rest (nested-strike (vec-len (old .rules)) rest mark all)))
+    same-sheet _ _ _ _ _ _ _ _ (c .bring-mark-back-self .ensures .state)
+    (ap (map span) (c .bring-mark-back-self .ensures .lines))
+    (c .bring-mark-back-self .ensures .rules)
+    (ap reverse (ap (λ (rs : List Rule). map (found rs) rest) (c .bring-mark-back-self .ensures .rules) ∙ found-strike rules (mark .rules) rest (nested-strike (vec-len (old .rules)) rest mark all)))
     ∙ ap (λ (cs : List Core). record { core = getD cs 0 (core old); saved = drop 1 cs }) (sym saved)

@@ -1,7 +1,0 @@
-use Rattle.law.proofs.theorems.calls_have_one_outcome.Needs as need
-use Rattle.law.proofs.Verdicts.{steps-once}
-use Rattle.law.proofs.Endings.{total}
-
--- One outcome, at the meaning that M has.
-pub returns : need.returns
-returns g c = record { unique = steps-once (g .M·Meant .meaning); exists = total (g .M·Meant .meaning) }
