@@ -3,7 +3,7 @@ ghost use mathlib.Core.Path.{_≡_};
 ghost use Rattle.law.specs.Refusals.{numbered};
 
 /// The state of a sheet.
-#[derive(Clone, Copy)]
+#[derive(Clone, Copy, PartialEq, Eq, Debug)]
 pub enum State {
     Unsettled,
     Standing,
@@ -11,7 +11,7 @@ pub enum State {
 }
 
 /// A rule: its kind, and the numbers of the lines that it names. A kind of two lines has `c` 0.
-#[derive(Clone, Copy)]
+#[derive(Clone, Copy, PartialEq, Eq, Debug)]
 pub struct Rule {
     pub kind: u32,
     pub a: u32,
@@ -20,7 +20,7 @@ pub struct Rule {
 }
 
 /// Why a call is turned away.
-#[derive(Clone, Copy)]
+#[derive(Clone, Copy, PartialEq, Eq, Debug)]
 pub enum Refusal {
     /// The lower end is above the upper, or the upper above the top.
     Ends,
@@ -43,7 +43,7 @@ pub enum Refusal {
 }
 
 /// A call on a sheet. A ticket is handed in as the sheet's number and the try's depth.
-#[derive(Clone, Copy)]
+#[derive(Clone, Copy, PartialEq, Eq, Debug)]
 pub enum Call {
     Line { lo: u32, hi: u32 },
     Rule(Rule),
@@ -55,7 +55,7 @@ pub enum Call {
 }
 
 /// What a sheet answers.
-#[derive(Clone, Copy)]
+#[derive(Clone, Copy, PartialEq, Eq, Debug)]
 pub enum Answer {
     /// The number of the new line or rule.
     Numbered(u32),

@@ -15,6 +15,13 @@ pub struct Check {
 pub fn first_fault(checks: &[Check]) -> Result<(), Refusal>
     ensures { λ r. ⌜ fault r ≡ first (now (checks .entry)) ⌝ }
 {
+    first_applying(checks)
+}
+
+/// The same, case by case.
+fn first_applying(checks: &[Check]) -> Result<(), Refusal>
+    ensures { λ r. ⌜ fault r ≡ first (now (checks .entry)) ⌝ }
+{
     for check in checks {
         if check.applies {
             return Err(check.why);

@@ -5,7 +5,7 @@ use books::book::Book;
 mod calls;
 mod inner;
 mod reads;
-mod replay;
+pub mod replay;
 
 /// A sheet over a book. Its parts are reached by its calls alone.
 #[derive(Drop)]

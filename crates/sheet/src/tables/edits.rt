@@ -109,7 +109,12 @@ impl Tables {
 }
 
 /// Brings back the windows and rules of a mark, and answers the state that follows: the one that its open found.
-fn bring_mark_back(lines: &mut Vec<Window>, rules: &mut Vec<Rule>, state: State, mark: &Mark) -> State
+fn bring_mark_back(
+    lines: &mut Vec<Window>,
+    rules: &mut Vec<Rule>,
+    state: State,
+    mark: &Mark,
+) -> State
     requires { ⌜ 64 ≤ vec-cap (now lines) ⌝ }
     ensures state { λ r. ⌜ r ≡ now (mark .entry) .state ⌝ }
     ensures lines { λ _. ⌜ vec-items (now (lines .exit)) ≡ take (now (mark .entry) .lines) (now (mark .entry) .windows) ⌝ }

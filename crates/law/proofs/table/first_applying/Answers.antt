@@ -9,7 +9,7 @@ use Rattle.std.specs.declared.option.Option.the-variants.{Some}
 use Rattle.law.specs.declared.calls.Refusal.{Refusal}
 use Rattle.law.specs.declared.table.Check.{Check}
 use Rattle.law.specs.Table.{check, first}
-use Rattle.law.proofs.table.first_fault.Needs as need
+use Rattle.law.proofs.table.first_applying.Needs as need
 
 -- the first of the cases left applies, or the others decide
 by : (k : Check) (rest : List Check) (b : Bool) → k .applies ≡ b → first (k ∷ rest) ≡ cond b (Some (k .why)) (first rest)

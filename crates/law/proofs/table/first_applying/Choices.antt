@@ -1,7 +1,7 @@
 use mathlib.Core.Path.{_≡_}
 use lib.ListN.{drop}
 use Rattle.law.specs.Table.{first}
-use Rattle.law.proofs.table.first_fault.Given as given
+use Rattle.law.proofs.table.first_applying.Given as given
 
 -- none of the cases passed by applies
 abbrev pub Inv-loop-check : given.InvT-loop-check
