@@ -1,4 +1,5 @@
 //! Worked cases of the sheet, as lists of calls with the answers that they must get.
+use crate::tickets::strike_then_keep;
 use books::counter::CounterBook;
 use books::counter::CounterBookBook;
 use law::calls::Answer;
@@ -7,6 +8,7 @@ use law::calls::AnswerPartialEq;
 use law::calls::Call;
 use law::calls::Refusal;
 use law::calls::Rule;
+use sheet::sheet::Sheet;
 use sheet::sheet::replay::Replay;
 use std::test::*;
 
@@ -191,4 +193,10 @@ fn refusals_come_in_their_order(rt: LibcRuntime) -> Result<(), Fail> {
         ],
         &[(0, 9), (0, 9)],
     )
+}
+
+#[test]
+fn a_client_spends_its_tickets(rt: LibcRuntime) -> Result<(), Fail> {
+    let mut sheet = Sheet::new(rt.alloc(), 1, CounterBook)?;
+    check(strike_then_keep(&mut sheet) && sheet.tries() == 0)
 }

@@ -65,6 +65,18 @@ admitted State.Barren Event.Run next cs o p = let z : _≡_ {A = ℕ} 0 1 = cc i
 admitted State.Barren Event.Hold next cs o p = let z : _≡_ {A = ℕ} 0 1 = cc in let w : ⊥ = omega arith in absurd w
 admitted State.Barren (Event.Restore f) next cs o p = absurd o
 
+-- On a sheet that is not barren the other cases decide.
+pub unbarred : (s : State) (cs : List Check) → is-barren s ≡ false → first (behind s cs) ≡ first cs
+unbarred State.Unsettled cs p = refl
+unbarred State.Standing cs p = refl
+unbarred State.Barren cs p = let z : _≡_ {A = ℕ} 0 1 = cc in let w : ⊥ = omega arith in absurd w
+
+-- A sheet on which a try may be opened is not barren.
+pub held : (s next : State) → follows s Event.Hold ≡ Ok next → is-barren s ≡ false
+held State.Unsettled next p = refl
+held State.Standing next p = refl
+held State.Barren next p = let z : _≡_ {A = ℕ} 0 1 = cc in let w : ⊥ = omega arith in absurd w
+
 -- A change leaves the sheet unsettled.
 pub unsettled : (s next : State) → follows s Event.Change ≡ Ok next → next ≡ State.Unsettled
 unsettled State.Unsettled next p = cc

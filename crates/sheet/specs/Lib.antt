@@ -3,4 +3,5 @@ pub mod Edits
 pub mod Marks
 pub mod Rounds
 pub mod States
+pub mod Tickets
 pub mod Views

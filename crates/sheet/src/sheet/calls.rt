@@ -1,11 +1,16 @@
 //! The public calls of a sheet. Seven of them change it; each promises what the call does, by the definitions of calls and
 //! answers, and the law after every list of calls that led to the sheet as it is, followed by this one.
+ghost use mathlib.Core.Bool.{false, true};
 ghost use mathlib.Core.Path.{_≡_};
 ghost use Rattle.law.specs.declared.calls.Call.{Call};
 ghost use Rattle.law.specs.Law.{Called};
+ghost use Rattle.law.specs.Table.{is-barren};
 ghost use Rattle.sheet.specs.Answers.{kept, named, numbered, opened, pinched, returned, settled, struck};
 ghost use Rattle.sheet.specs.Rounds.{meaning};
+ghost use Rattle.sheet.specs.Tickets.{Innermost};
 ghost use Rattle.sheet.specs.Views.{model};
+ghost use Rattle.std.specs.Results.{isOk};
+ghost use Rattle.std.specs.Vec.{made};
 use super::Sheet;
 use crate::settled::Settled;
 use crate::ticket::Returned;
@@ -56,6 +61,8 @@ impl<B: Book> Sheet<B> {
         ensures called { λ r. ⌜ Called (meaning top arity counts (related (now (self .entry) .book))) (now (self .entry) .number) (model (now (self .entry) .tables)) Call.Open (model (now (self .exit) .tables)) (opened r) ⌝ }
         ensures number { λ _. ⌜ now (self .exit) .number ≡ now (self .entry) .number ⌝ }
         ensures book { λ _. ⌜ now (self .exit) .book ≡ now (self .entry) .book ⌝ }
+        ensures innermost { λ r. ⌜ made r (λ t. Innermost (now (self .exit) .number) (model (now (self .exit) .tables)) (t .number) (t .depth)) ⌝ }
+        ensures alive { λ r. ⌜ made r (λ _. is-barren (model (now (self .exit) .tables) .core .state) ≡ false) ⌝ }
     {
         match self.begin() {
             Err(why) => Err(why),
@@ -72,6 +79,7 @@ impl<B: Book> Sheet<B> {
         ensures number { λ _. ⌜ now (self .exit) .number ≡ now (self .entry) .number ⌝ }
         ensures book { λ _. ⌜ now (self .exit) .book ≡ now (self .entry) .book ⌝ }
         ensures ticket { λ r. ⌜ returned ticket r ⌝ }
+        ensures accepts { λ r. ⌜ (Innermost (now (self .entry) .number) (model (now (self .entry) .tables)) (ticket .number) (ticket .depth) → is-barren (model (now (self .entry) .tables) .core .state) ≡ false → isOk r ≡ true) ⌝ }
     {
         match self.end_keeping(ticket.number, ticket.depth) {
             Err(why) => Err(Returned { why, ticket }),
@@ -88,6 +96,7 @@ impl<B: Book> Sheet<B> {
         ensures number { λ _. ⌜ now (self .exit) .number ≡ now (self .entry) .number ⌝ }
         ensures book { λ _. ⌜ now (self .exit) .book ≡ now (self .entry) .book ⌝ }
         ensures ticket { λ r. ⌜ returned ticket r ⌝ }
+        ensures accepts { λ r. ⌜ (Innermost (now (self .entry) .number) (model (now (self .entry) .tables)) (ticket .number) (ticket .depth) → isOk r ≡ true) ⌝ }
     {
         match self.end_striking(ticket.number, ticket.depth) {
             Err(why) => Err(Returned { why, ticket }),

@@ -1,13 +1,17 @@
 //! The seven calls, each with the law on it; `calls` makes them public.
+ghost use mathlib.Core.Bool.{false, true};
 ghost use mathlib.Core.Path.{_≡_};
 ghost use Rattle.law.specs.declared.calls.Answer.{Answer};
 ghost use Rattle.law.specs.declared.calls.Call.{Call};
 ghost use Rattle.law.specs.Faults.{fault};
 ghost use Rattle.law.specs.Law.{Called};
-ghost use Rattle.law.specs.Table.{verdict};
+ghost use Rattle.law.specs.Table.{is-barren, verdict};
 ghost use Rattle.sheet.specs.Answers.{begun, ended, numbered, pinched, settled};
 ghost use Rattle.sheet.specs.Rounds.{meaning};
+ghost use Rattle.sheet.specs.Tickets.{Innermost};
 ghost use Rattle.sheet.specs.Views.{model};
+ghost use Rattle.std.specs.Results.{isOk};
+ghost use Rattle.std.specs.Vec.{made};
 use super::Sheet;
 use crate::place::cut_down;
 use crate::place::window_at;
@@ -73,6 +77,8 @@ impl<B: Book> Sheet<B> {
         ensures called { λ r. ⌜ Called (meaning top arity counts (related (now (self .entry) .book))) (now (self .entry) .number) (model (now (self .entry) .tables)) Call.Open (model (now (self .exit) .tables)) (begun (now (self .entry) .number) r) ⌝ }
         ensures number { λ _. ⌜ now (self .exit) .number ≡ now (self .entry) .number ⌝ }
         ensures book { λ _. ⌜ now (self .exit) .book ≡ now (self .entry) .book ⌝ }
+        ensures innermost { λ r. ⌜ made r (λ depth. Innermost (now (self .entry) .number) (model (now (self .exit) .tables)) (now (self .entry) .number) depth) ⌝ }
+        ensures alive { λ r. ⌜ made r (λ _. is-barren (model (now (self .exit) .tables) .core .state) ≡ false) ⌝ }
     {
         next_state(self.tables.state, Event::Hold)?;
         self.tables.check_open()?;
@@ -93,6 +99,7 @@ impl<B: Book> Sheet<B> {
         ensures called { λ r. ⌜ Called (meaning top arity counts (related (now (self .entry) .book))) (now (self .entry) .number) (model (now (self .entry) .tables)) (Call.Keep number depth) (model (now (self .exit) .tables)) (ended Answer.Kept r) ⌝ }
         ensures number { λ _. ⌜ now (self .exit) .number ≡ now (self .entry) .number ⌝ }
         ensures book { λ _. ⌜ now (self .exit) .book ≡ now (self .entry) .book ⌝ }
+        ensures accepts { λ r. ⌜ (Innermost (now (self .entry) .number) (model (now (self .entry) .tables)) number depth → is-barren (model (now (self .entry) .tables) .core .state) ≡ false → isOk r ≡ true) ⌝ }
     {
         self.check_keep(number, depth)?;
         self.tables.keep_try();
@@ -104,6 +111,7 @@ impl<B: Book> Sheet<B> {
         ensures called { λ r. ⌜ Called (meaning top arity counts (related (now (self .entry) .book))) (now (self .entry) .number) (model (now (self .entry) .tables)) (Call.Strike number depth) (model (now (self .exit) .tables)) (ended Answer.Struck r) ⌝ }
         ensures number { λ _. ⌜ now (self .exit) .number ≡ now (self .entry) .number ⌝ }
         ensures book { λ _. ⌜ now (self .exit) .book ≡ now (self .entry) .book ⌝ }
+        ensures accepts { λ r. ⌜ (Innermost (now (self .entry) .number) (model (now (self .entry) .tables)) number depth → isOk r ≡ true) ⌝ }
     {
         self.tables.check_ticket(self.number, number, depth)?;
         self.tables.strike_try();

@@ -13,13 +13,13 @@ use Rattle.law.specs.declared.calls.Call.{Call}
 use Rattle.law.specs.declared.calls.State.{State}
 use Rattle.law.specs.Sheets.{Core, Model, between, cut, window}
 use Rattle.law.specs.Steps.{with-core}
-use Rattle.law.specs.Table.{first, line-cases, open-cases, pinch-cases, rule-cases, ticket-cases}
+use Rattle.law.specs.Table.{first, is-barren, line-cases, open-cases, pinch-cases, rule-cases, ticket-cases}
 use Rattle.law.proofs.Verdicts.{line-taken, pinch-taken}
 use Rattle.sheet.specs.declared.state.Event.{Event}
 use Rattle.sheet.specs.Edits.{lined-as, pinched-as, ruled-as}
 use Rattle.sheet.specs.Rounds.{meaning}
 use Rattle.sheet.specs.Views.{core, model}
-use Rattle.sheet.proofs.Verdicts.{open-barred, open-cleared, turned-away, taken}
+use Rattle.sheet.proofs.Verdicts.{open-barred, open-cleared, held, turned-away, taken}
 use Rattle.sheet.proofs.Numbers.{opened-depth}
 use Rattle.sheet.proofs.sheet.Sheet.begin.Needs as need
 
@@ -34,6 +34,8 @@ returns-in-Break-next-state g c =
       called = turned-away m id (model t) Call.Open _ (open-barred t m id _ (sym (c .in-Break-next-state .ensures tt)));
       number = refl;
       book = refl;
+      innermost = tt;
+      alive = tt;
     })
 
 -- a case of the table does
@@ -47,6 +49,8 @@ returns-in-Break-check-open g c =
       called = turned-away m id (model t) Call.Open _ (open-cleared t m id _ (sym (c .in-Continue-next-state .ensures tt)) ∙ sym (c .in-Break-check-open .ensures tt));
       number = refl;
       book = refl;
+      innermost = tt;
+      alive = tt;
     })
 
 -- the call is taken
@@ -61,4 +65,6 @@ returns g c =
       called = taken m id (model t) Call.Open (model (c .begin-try .last .self)) (Answer.Opened id (c .try-count .result)) free (c .begin-try .ensures, ap (Answer.Opened id) depth);
       number = refl;
       book = refl;
+      innermost = record { own = refl; deepest = c .try-count .ensures .saved; real = omega (arith, depth) };
+      alive = ap (λ (x : Model). is-barren (x .core .state)) (c .begin-try .ensures) ∙ held (t .state) _ (sym (c .in-Continue-next-state .ensures tt));
     }

@@ -6,7 +6,10 @@ use Rattle.law.specs.declared.calls.Answer.{Answer}
 use Rattle.law.specs.declared.calls.Call.{Call}
 use Rattle.sheet.specs.Rounds.{meaning}
 use Rattle.sheet.specs.Views.{model}
-use Rattle.sheet.proofs.Verdicts.{turned-away, taken}
+use Rattle.sheet.proofs.Verdicts.{keep-verdict, turned-away, taken, unbarred}
+use Rattle.law.specs.Table.{ticket-cases}
+use Rattle.std.specs.Of.Vec.{vec-len}
+use Rattle.sheet.proofs.Numbers.{never-turned}
 use Rattle.sheet.proofs.sheet.Sheet.end_keeping.Needs as need
 
 -- the call is turned away
@@ -20,6 +23,7 @@ returns-in-Break-check-keep g c =
       called = turned-away m id (model t) (Call.Keep (c .args .number) (c .args .depth)) _ (sym (c .in-Break-check-keep .ensures tt));
       number = refl;
       book = refl;
+      accepts = λ inner alive. absurd (never-turned t id (c .args .number) (c .args .depth) _ inner (c .in-Break-check-keep .ensures tt ∙ keep-verdict t m id (c .args .number) (c .args .depth) ∙ unbarred (t .state) (ticket-cases id (vec-len (t .tries)) (c .args .number) (c .args .depth)) alive));
     })
 
 -- it is taken
@@ -32,4 +36,5 @@ returns g c =
       called = taken m id (model t) (Call.Keep (c .args .number) (c .args .depth)) (model (c .keep-try .last .self)) Answer.Kept (sym (c .in-Continue-check-keep .ensures tt)) (c .keep-try .ensures, refl);
       number = refl;
       book = refl;
+      accepts = λ inner alive. refl;
     }

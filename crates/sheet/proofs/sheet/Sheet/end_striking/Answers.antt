@@ -7,6 +7,7 @@ use Rattle.law.specs.declared.calls.Call.{Call}
 use Rattle.sheet.specs.Rounds.{meaning}
 use Rattle.sheet.specs.Views.{model}
 use Rattle.sheet.proofs.Verdicts.{strike-verdict, turned-away, taken}
+use Rattle.sheet.proofs.Numbers.{never-turned}
 use Rattle.sheet.proofs.sheet.Sheet.end_striking.Needs as need
 
 -- the call is turned away
@@ -20,6 +21,7 @@ returns-in-Break-check-ticket g c =
       called = turned-away m id (model t) (Call.Strike (c .args .number) (c .args .depth)) _ (strike-verdict t m id (c .args .number) (c .args .depth) ∙ sym (c .in-Break-check-ticket .ensures tt));
       number = refl;
       book = refl;
+      accepts = λ inner. absurd (never-turned t id (c .args .number) (c .args .depth) _ inner (c .in-Break-check-ticket .ensures tt));
     })
 
 -- it is taken
@@ -32,4 +34,5 @@ returns g c =
       called = taken m id (model t) (Call.Strike (c .args .number) (c .args .depth)) (model (c .strike-try .last .self)) Answer.Struck (strike-verdict t m id (c .args .number) (c .args .depth) ∙ sym (c .in-Continue-check-ticket .ensures tt)) (c .strike-try .ensures, refl);
       number = refl;
       book = refl;
+      accepts = λ inner. refl;
     }
