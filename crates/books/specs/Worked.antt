@@ -6,7 +6,7 @@ use Prim.Native.Nat.{ℕ}
 use mathlib.Core.List.{List, [], _∷_}
 use mathlib.Core.Path.{_≡_}
 use Rattle.codes.specs.Counter.{counter-product}
-use Rattle.half.specs.Laws.{HalfCases}
+use Rattle.half.specs.Laws.{Half-cases}
 use Rattle.windows.specs.Spans.{Span}
 use Rattle.windows.specs.Choices.{No-choice}
 use Rattle.books.specs.CounterBooks.{Counter-meets}
@@ -29,4 +29,4 @@ pub record Counter-travels : Type 0 where
 pub record Worked-cases : Type 0 where
   pub products : Counter-products
   pub travels : Counter-travels
-  pub halves : HalfCases
+  pub halves : Half-cases

@@ -1,17 +1,16 @@
 -- An exact result between two neighbouring codes is rounded to one of them, by how far it is from the first. Every lemma
 -- holds for any format.
-use Prim.Native.Nat.{ℕ, zero, suc, _+_, _-_, _*_, _/_, _%_, _^_, _≤_, _<_, min}
-use mathlib.Core.Bool.{Bool, true, false, cond}
-use mathlib.Core.Path.{_≡_, refl, sym, ap, _∙_, subst}
-use mathlib.Core.Logic.{_⊎_, inl, inr}
-use native.Mathlib.Nat.{le-of-mul-le-mul-right, lt-of-mul-lt-mul-right, mul-le-mul-right, mul-lt-mul-of-pos-right, eq-of-mul-eq-mul-right, mul-eq-zero, mul-add-div-right, div-eq-of-lt, div-add-mod', mod-lt, mul-pos}
+use Prim.Native.Nat.{ℕ, _+_, _-_, _*_, _/_, _%_, _≤_, _<_, min}
+use mathlib.Core.Bool.{cond}
+use mathlib.Core.Path.{_≡_, refl, ap, _∙_}
+use mathlib.Core.Logic.{inl, inr}
+use native.Mathlib.Nat.{le-of-mul-le-mul-right, lt-of-mul-lt-mul-right, mul-lt-mul-of-pos-right, eq-of-mul-eq-mul-right, mul-add-div-right, div-eq-of-lt, div-add-mod', mod-lt, mul-pos}
 use native.Mathlib.Omega.{arith}
-use lib.Dec.{leb, ltb, eqb}
-use lib.Pow.{pow-pos}
-use Rattle.std.proofs.shelf.Tests.{cases-lt, cases-order, lt-ltb, le-ltb, eq-eqb, ne-eqb, cond-true, cond-false}
+use lib.Dec.{ltb}
+use Rattle.std.proofs.shelf.Tests.{cases-lt, cases-order}
 use Rattle.std.proofs.shelf.Ways.{tells}
-use Rattle.half.specs.Formats.{Format, size, Exact}
-use Rattle.half.specs.Roundings.{value, floor, nearer, above, rounded, RoundsTowardZero}
+use Rattle.half.specs.Formats.{Format, Exact}
+use Rattle.half.specs.Roundings.{value, floor, rounded}
 use Rattle.half.specs.Steps.{chosen, limit, nudge}
 use Rattle.half.specs.declared.mode.Mode.{Mode}
 use Rattle.half.specs.declared.mode.Mode.the-variants.{TowardZero, Nearest, Up}
@@ -26,9 +25,11 @@ pub record Cell (F : Format) (e : Exact) (t c rest step : ℕ) : Type 0 where
   pub within : rest < step
 
 module _ (F : Format) (e : Exact) (t c rest step : ℕ) (cell : Cell F e t c rest step) where
+  -- The code is not above the exact result.
   not-above : value F e c ≤ e .parts
   not-above = le-of-mul-le-mul-right {k = t} (omega (arith, cell .at)) (cell .finer)
 
+  -- The next code is above it.
   below-next : e .parts < value F e (c + 1)
   below-next = lt-of-mul-lt-mul-right t (omega (arith, cell .at, cell .next, cell .within))
 
@@ -44,18 +45,23 @@ module _ (F : Format) (e : Exact) (t c rest step : ℕ) (cell : Cell F e t c res
   doubled : (value F e c + value F e (c + 1)) * t + 2 * rest ≡ 2 * e .parts * t + step
   doubled = omega (arith, cell .at, cell .next)
 
+  -- Less than half of the step: nearer to the code.
   lower : 2 * rest < step → 2 * e .parts < value F e c + value F e (c + 1)
   lower h = lt-of-mul-lt-mul-right t (omega (arith, doubled))
 
+  -- More than half: nearer to the next.
   upper : step < 2 * rest → value F e c + value F e (c + 1) < 2 * e .parts
   upper h = lt-of-mul-lt-mul-right t (omega (arith, doubled))
 
+  -- Half: in the middle.
   middle : 2 * rest ≡ step → 2 * e .parts ≡ value F e c + value F e (c + 1)
   middle h = eq-of-mul-eq-mul-right t (cell .finer) _ _ (omega (arith, doubled))
 
+  -- Nothing left: the code is exact.
   exact : rest ≡ 0 → value F e c ≡ e .parts
   exact h = eq-of-mul-eq-mul-right t (cell .finer) _ _ (omega (arith, cell .at))
 
+  -- Something left: the code is below.
   inexact : 0 < rest → value F e c < e .parts
   inexact h = lt-of-mul-lt-mul-right t (omega (arith, cell .at))
 
@@ -129,14 +135,17 @@ chosen-above m n c rest step = by-mode m
 
 -- Digits to which less than two steps are added keep their quotient or gain one.
 module _ (digits step n : ℕ) (pos : 0 < step) where
+  -- The digits are their quotient and their rest.
   whole : digits / step * step + digits % step ≡ digits
   whole = div-add-mod' digits step
 
+  -- Too little is added: the quotient stays.
   kept : digits % step + n < step → (digits + n) / step ≡ digits / step
   kept h =
       let split : digits + n ≡ digits / step * step + (digits % step + n) = omega (arith, whole) in
       ap (λ x. x / step) split ∙ mul-add-div-right pos (digits / step) (digits % step + n) ∙ omega (arith, div-eq-of-lt h)
 
+  -- Enough is added: the quotient gains one.
   gained : step ≤ digits % step + n → digits % step + n < 2 * step → (digits + n) / step ≡ digits / step + 1
   gained h h' =
       let split : digits + n ≡ (digits / step + 1) * step + (digits % step + n - step) = omega (arith, whole) in
@@ -156,6 +165,7 @@ nudged m digits half pos = by-mode m
     gains : (n : ℕ) → 2 * half ≤ digits % (2 * half) + n → digits % (2 * half) + n < 2 * (2 * half) → (digits + n) / (2 * half) ≡ digits / (2 * half) + 1
     gains n = gained digits (2 * half) n (omega arith)
 
+    -- to nearest: by how the rest stands to half a step, and at half of it by the lowest digit kept
     near : (q rest odd : ℕ) → q ≡ digits / (2 * half) → rest ≡ digits % (2 * half) → odd ≡ q % 2 → (digits + (half + odd - 1)) / (2 * half) ≡ cond (ltb (2 * rest) (2 * half)) q (cond (ltb (2 * half) (2 * rest)) (q + 1) (q + q % 2))
     near q rest odd eq er eo = elim (cases-order rest half) [
       | inl same ↦ elim (cases-lt odd 1) [

@@ -1,13 +1,13 @@
 -- The digits of an exact result, cut at the last place, make the code below it and how far above that code it stands.
 -- Assumes nothing beyond what each lemma asks.
 use Prim.Native.Nat.{ℕ, zero, suc, _+_, _-_, _*_, _/_, _%_, _^_, _≤_, _<_, min, max}
-use mathlib.Core.Path.{_≡_, refl, sym, ap, _∙_, subst}
-use mathlib.Core.Logic.{_⊎_, inl, inr}
-use native.Mathlib.Nat.{mul-le-mul-right, mul-lt-mul-of-pos-right, div-add-mod', mod-lt, mul-pos, pow-suc}
+use mathlib.Core.Path.{_≡_, sym, ap, _∙_, subst}
+use mathlib.Core.Logic.{inl, inr}
+use native.Mathlib.Nat.{mul-lt-mul-of-pos-right, div-add-mod', mod-lt, mul-pos, pow-suc}
 use native.Mathlib.Omega.{arith}
 use lib.Bits.{bitOr}
 use lib.Count.{leadingZeros, leading-top}
-use lib.Pow.{pow-pos, pow-mono, pow-add, pow-lt}
+use lib.Pow.{pow-pos, pow-mono, pow-add}
 use Rattle.std.proofs.shelf.Bits.{or-shr, or-mod, or-comm, div-below, le-div}
 use Rattle.std.proofs.shelf.Tests.{cases-lt}
 use Rattle.std.proofs.shelf.Ways.{tells}
@@ -32,6 +32,7 @@ with-one n =
     let lower : bitOr n 1 % 2 ≡ 1 = or-mod n 1 1 ∙ odd (n % 2) (mod-lt n (omega arith)) in
     omega arith
   where
+    -- a bit that is set is 1
     odd : (b : ℕ) → b < 2 → bitOr b 1 ≡ 1
     odd b h = elim (cases-lt b 1) [ inl lt ↦ let none : b ≡ 0 = omega arith in rw none | inr ge ↦ let one : b ≡ 1 = omega arith in rw one ]
 
@@ -42,6 +43,7 @@ length-of n small =
     let top = leading-top 64 (bitOr n 1) (omega arith) (omega arith) in
     go (top .0) (64 - leadingZeros 64 (bitOr n 1)) (omega (arith, top .1)) (omega arith) (omega (arith, w, top .2)) (omega (arith, w, top .3))
   where
+    -- by the place j of the highest one bit
     go : (j r : ℕ) → r ≡ suc j → r ≤ 64 → 2 ^ j ≤ 2 * (n / 2) + 1 → 2 * (n / 2) + 1 < 2 ^ suc j → Length n r
     go j r e le lo hi = subst (Length n) (sym e) record {
       some = omega arith;
@@ -61,6 +63,7 @@ module _ (digits shift len place : ℕ) (long : Length digits len) (at : place �
   pub place-some : 1 ≤ place
   place-some = omega (arith, long .some)
 
+  -- It is no higher than the highest of them.
   pub place-low : place ≤ 41
   place-low = elim (cases-lt 41 len) [
     | inl more ↦ omega (arith, long .needed (omega arith), pow-mono {i = 41} {j = len - 1} (omega arith))
@@ -79,6 +82,7 @@ module _ (digits shift len place : ℕ) (long : Length digits len) (at : place �
       let same : place ≡ len = omega arith in
       le-div 1024 (digits * 2048) (2 ^ place) (pow-pos place) (omega (arith, ap (λ x. 2 ^ x) same, pow-double len (long .some), needed same))
     where
+      -- no digit above the highest is counted
       needed : place ≡ len → 2 ^ (len - 1) ≤ digits
       needed same = elim (cases-lt 1 len) [
         | inl more ↦ long .needed more
@@ -86,15 +90,19 @@ module _ (digits shift len place : ℕ) (long : Length digits len) (at : place �
       ]
 
   module _ (e : Exact) (is : StandsFor e digits shift) where
+    -- The shift of the code.
     abbrev k : ℕ
     k = place + shift - 35
 
+    -- The digits kept.
     abbrev q : ℕ
     q = digits * 2048 / 2 ^ place
 
+    -- The digits dropped.
     abbrev rest : ℕ
     rest = digits * 2048 % 2 ^ place
 
+    -- What one of the digits counts for.
     abbrev unit : ℕ
     unit = 2 ^ shift * e .scale
 
@@ -139,6 +147,7 @@ pub record Placing (digits shift place : ℕ) : Type 0 where
   pub code : (m : Mode) (e : Exact) → StandsFor e digits shift →
       rounded half m e ≡ min (1024 * (place + shift - 35) + chosen m (digits * 2048 / 2 ^ place) (digits * 2048 % 2 ^ place) (2 ^ place)) (limit half m)
 
+-- It holds of the place that the code of `round` finds.
 pub placing : (exact : Unrounded) (len place : ℕ) → Length (exact .digits) len → place ≡ max len (35 - exact .shift) → Placing (exact .digits) (exact .shift) place
 placing exact len place long at = record {
   some = place-some (exact .digits) (exact .shift) len place long at (exact .small) (exact .some);

@@ -1,14 +1,14 @@
 -- The rounded code is the one that the relation describes, the relation describes no other, and it never falls as the exact
 -- result rises. Every lemma holds for any format; each asks for a scale above 0 where it needs one.
-use Prim.Native.Nat.{ℕ, zero, suc, _+_, _-_, _*_, _%_, _^_, _≤_, _<_, zero-le, min}
-use mathlib.Core.Bool.{Bool, true, false, cond}
-use mathlib.Core.Path.{_≡_, refl, sym, ap, _∙_, subst}
+use Prim.Native.Nat.{ℕ, zero, suc, _+_, _*_, _%_, _≤_, _<_, zero-le}
+use mathlib.Core.Bool.{Bool, true, false}
+use mathlib.Core.Path.{_≡_, sym, ap, _∙_, subst}
 use mathlib.Core.Logic.{_⊎_, inl, inr}
 use native.Mathlib.Nat.{le-antisymm, le-refl, mul-le-mul-right, mul-lt-mul-of-pos-right}
 use native.Mathlib.Omega.{arith}
 use lib.Dec.{leb, ltb, eqb}
 use lib.Pow.{pow-pos}
-use Rattle.std.proofs.shelf.Tests.{cases-lt, cases-order, cases-bool, cond-both, cond-true, cond-false, leb-true, le-leb, ltb-true, ltb-false, eqb-true, eqb-false}
+use Rattle.std.proofs.shelf.Tests.{cases-lt, cases-order, cond-both, leb-true, le-leb, ltb-true, ltb-false, eqb-true, eqb-false}
 use Rattle.std.proofs.shelf.Ways.{tells}
 use Rattle.half.specs.Formats.{Format, size, Exact}
 use Rattle.half.specs.Roundings.{value, apart, last-of, floor, nearer, above, rounded, RoundsTowardZero, RoundsToNearest, RoundsUp, Rounds}
@@ -22,6 +22,7 @@ record Last (holds : ℕ → Bool) (n r : ℕ) : Type 0 where
   passes : holds r ≡ true
   greatest : (c : ℕ) → c ≤ n → holds c ≡ true → c ≤ r
 
+-- It finds one, where the test holds of 0.
 last-is : (holds : ℕ → Bool) (n : ℕ) → holds 0 ≡ true → Last holds n (last-of holds n)
 unfolding last-of
 last-is holds zero h = record { up-to = zero-le; passes = h; greatest = λ c le _. le }
@@ -30,6 +31,7 @@ last-is holds (suc n) h =
     (λ t. record { up-to = le-refl (suc n); passes = t; greatest = λ c le _. le })
     (λ f. let under = last-is holds n h in record { up-to = omega (arith, under .up-to); passes = under .passes; greatest = λ c le t. smaller f under c le t })
   where
+    -- where the test fails at n + 1, what is found below is the greatest
     smaller : holds (suc n) ≡ false → Last holds n (last-of holds n) → (c : ℕ) → c ≤ suc n → holds c ≡ true → c ≤ last-of holds n
     smaller f under c le t = elim (cases-lt c (suc n)) [ inl lt ↦ under .greatest c (omega arith) t | inr ge ↦ top (omega arith) ]
       where
@@ -52,6 +54,7 @@ floor-is F e =
 pub value-rises : (F : Format) (e : Exact) (c d : ℕ) → c ≤ d → value F e c ≤ value F e d
 value-rises F e c d h = mul-le-mul-right (e .scale) (size-rises F c d h)
 
+-- A greater code has a greater value.
 pub value-grows : (F : Format) (e : Exact) → 0 < e .scale → (c d : ℕ) → c < d → value F e c < value F e d
 value-grows F e pos c d h = mul-lt-mul-of-pos-right (size-grows F c d h) pos
 
@@ -86,6 +89,7 @@ module _ (F : Format) (e : Exact) (pos : 0 < e .scale) where
       ⊎ (((c ≡ f) × (value F e c ≡ value F e f))
       ⊎ (((c ≡ f + 1) × (value F e c ≡ value F e (f + 1))) ⊎ ((f + 1 < c) × (value F e (f + 1) < value F e c))))
 
+  -- Every code stands somewhere beside them.
   beside : (f c : ℕ) → Beside f c
   unfolding Beside
   beside f c =
@@ -151,6 +155,7 @@ module _ (F : Format) (e : Exact) (pos : 0 < e .scale) where
         (λ u. near-high (ltb-true _ _ u))
         (λ u. near-even (omega (arith, ltb-false _ _ t, ltb-false _ _ u)) (f + f % 2) even-one (omega arith)))
       where
+        -- f + f % 2 is one of the two
         even-one : ((f + f % 2 ≡ f) × (value F e (f + f % 2) ≡ value F e f)) ⊎ ((f + f % 2 ≡ f + 1) × (value F e (f + f % 2) ≡ value F e (f + 1)))
         even-one = elim (cases-lt (f % 2) 1) [
           | inl lt ↦ let same : f + f % 2 ≡ f = omega arith in inl (same, ap (value F e) same)
@@ -168,6 +173,7 @@ rounded-is F Up e pos = above-is F e pos (floor F e) (floor-is F e)
 pub rounds-order : (F : Format) (m : Mode) (e e' : Exact) → 0 < e .scale → e .scale ≡ e' .scale → e .parts < e' .parts → (r r' : ℕ) → Rounds F m e r → Rounds F m e' r' → r ≤ r'
 rounds-order F m e e' pos same lt r r' = by-mode m
   where
+    -- on one scale a code has one value
     level : (c : ℕ) → value F e c ≡ value F e' c
     level c = ap (λ s. size F c * s) same
 
@@ -187,6 +193,7 @@ pub rounds-one : (F : Format) (m : Mode) (e : Exact) → 0 < e .scale → (r r' 
 rounds-one F TowardZero e pos r r' p p' = le-antisymm (p' .greatest r (p .a-code) (p .not-above)) (p .greatest r' (p' .a-code) (p' .not-above))
 rounds-one F Up e pos r r' p p' = le-antisymm (below r r' p p') (below r' r p' p)
   where
+    -- each is the least
     below : (r r' : ℕ) → RoundsUp F e r → RoundsUp F e r' → r ≤ r'
     below r r' p p' = elim (cases-lt (F .top) r') [ inl over ↦ omega (arith, p .a-code) | inr low ↦ p .least r' low (p' .not-below low) ]
 rounds-one F Nearest e pos r r' p p' = le-antisymm (below r r' p p') (below r' r p' p)

@@ -1,15 +1,13 @@
 -- The size of a code, by its parts, and that sizes rise with codes. Assumes nothing: every lemma holds for any format.
 use Prim.Native.Nat.{ℕ, zero, suc, _+_, _-_, _*_, _/_, _%_, _^_, _≤_, _<_, compare·suc-zero}
-use mathlib.Core.Path.{_≡_, refl, sym, ap, _∙_, subst}
-use mathlib.Core.Logic.{_⊎_, inl, inr}
-use native.Mathlib.Nat.{add-zero, le-refl, div-eq-of-lt, mod-eq-of-lt, div-add-mod', mod-lt, pow-suc, mul-lt-mul-of-pos-right, mul-le-mul-right}
-use native.Mathlib.Numerals.{sub-one}
-use native.Mathlib.Decide.{decLe, decLt}
+use mathlib.Core.Path.{_≡_, sym, ap, _∙_, subst}
+use mathlib.Core.Logic.{inl, inr}
+use native.Mathlib.Nat.{add-zero, le-refl, div-eq-of-lt, mod-eq-of-lt, div-add-mod', mod-lt, pow-suc}
 use native.Mathlib.Omega.{arith}
 use lib.Arith.{digits-div, digits-mod}
 use lib.Pow.{pow-pos}
 use Rattle.std.proofs.shelf.Tests.{cases-lt}
-use Rattle.half.specs.Formats.{Format, fraction, exponent, size}
+use Rattle.half.specs.Formats.{Format, exponent, size}
 
 -- A code below the first power of two is its own size.
 pub size-low : (F : Format) (c : ℕ) → c < 2 ^ F .fraction-bits → size F c ≡ c
@@ -28,17 +26,20 @@ size-high F k f h =
 pub size-of : (F : Format) (k s : ℕ) → (0 < k → 2 ^ F .fraction-bits ≤ s) → s ≤ 2 * 2 ^ F .fraction-bits → size F (k * 2 ^ F .fraction-bits + s) ≡ s * 2 ^ k
 size-of F k s normal small = elim (cases-lt s (2 ^ F .fraction-bits)) [ inl lt ↦ below lt | inr le ↦ elim (cases-lt s (2 * 2 ^ F .fraction-bits)) [ inl lt ↦ between le lt | inr ge ↦ carried ge ] ]
   where
+    -- no one bit: the shift is 0
     below : s < 2 ^ F .fraction-bits → size F (k * 2 ^ F .fraction-bits + s) ≡ s * 2 ^ k
     below lt =
         let none : k ≡ 0 = elim (cases-lt 0 k) [ inl pos ↦ omega (arith, normal pos) | inr e ↦ omega arith ] in
         rw none (ap (size F) (omega arith) ∙ size-low F s lt ∙ omega arith)
 
+    -- the one bit stands above the fraction
     between : 2 ^ F .fraction-bits ≤ s → s < 2 * 2 ^ F .fraction-bits → size F (k * 2 ^ F .fraction-bits + s) ≡ s * 2 ^ k
     between le lt =
         let whole : k * 2 ^ F .fraction-bits + s ≡ suc k * 2 ^ F .fraction-bits + (s - 2 ^ F .fraction-bits) = omega arith in
         let back : 2 ^ F .fraction-bits + (s - 2 ^ F .fraction-bits) ≡ s = omega arith in
         ap (size F) whole ∙ size-high F k (s - 2 ^ F .fraction-bits) (omega arith) ∙ ap (λ x. x * 2 ^ k) back
 
+    -- the significand of a carry: the next exponent, and no fraction
     carried : 2 * 2 ^ F .fraction-bits ≤ s → size F (k * 2 ^ F .fraction-bits + s) ≡ s * 2 ^ k
     carried ge =
         let full : s ≡ 2 * 2 ^ F .fraction-bits = omega arith in
@@ -51,6 +52,7 @@ size-of F k s normal small = elim (cases-lt s (2 ^ F .fraction-bits)) [ inl lt �
 abbrev pub gap : Format → ℕ → ℕ
 gap F c = 2 ^ (exponent F c - 1)
 
+-- The next code is larger by the gap.
 pub size-next : (F : Format) (c : ℕ) → size F (c + 1) ≡ size F c + gap F c
 size-next F c =
     let split : c / 2 ^ F .fraction-bits * 2 ^ F .fraction-bits + c % 2 ^ F .fraction-bits ≡ c = div-add-mod' c (2 ^ F .fraction-bits) in
@@ -78,6 +80,7 @@ size-next F c =
 pub size-rises : (F : Format) (c d : ℕ) → c ≤ d → size F c ≤ size F d
 size-rises F c d h = subst (λ x. size F c ≤ size F x) (omega arith) (climb (d - c))
   where
+    -- n steps up
     climb : (n : ℕ) → size F c ≤ size F (c + n)
     climb zero = rw add-zero (le-refl (size F c))
     climb (suc n) =
@@ -87,7 +90,3 @@ size-rises F c d h = subst (λ x. size F c ≤ size F x) (omega arith) (climb (d
 -- A greater code has a greater size.
 pub size-grows : (F : Format) (c d : ℕ) → c < d → size F c < size F d
 size-grows F c d h = omega (arith, size-next F c, pow-pos (exponent F c - 1), size-rises F (c + 1) d (omega arith))
-
--- A smaller size comes from a smaller code.
-pub size-order : (F : Format) (c d : ℕ) → size F c < size F d → c < d
-size-order F c d h = elim (cases-lt c d) [ inl lt ↦ lt | inr ge ↦ omega (arith, size-rises F d c ge) ]

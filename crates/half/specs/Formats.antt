@@ -18,9 +18,11 @@ pub record Format : Type 0 where
 abbrev pub half : Format
 half = record { fraction-bits = 10; unit-bits = 24; top = 31743 }
 
+-- The lower bits of a code.
 abbrev pub fraction : Format → ℕ → ℕ
 fraction F c = c % 2 ^ F .fraction-bits
 
+-- The bits of a code above its fraction.
 abbrev pub exponent : Format → ℕ → ℕ
 exponent F c = c / 2 ^ F .fraction-bits
 

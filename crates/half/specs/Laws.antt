@@ -30,7 +30,7 @@ pub record Results (operation : Mode → ℕ) (zeroward nearest upward : ℕ) : 
   pub mode-2 : operation Up ≡ upward
 
 -- Worked cases: a product of normal values, a tie, a product of a subnormal value, results past top, a tie at top, and one just below it.
-pub record HalfCases : Type 0 where
+pub record Half-cases : Type 0 where
   pub product-normal : Results (λ m. product half m 15361 15361) 15362 15362 15363
   pub product-tie : Results (λ m. product half m 15361 15872) 15873 15874 15874
   pub product-subnormal : Results (λ m. product half m 3 14336) 1 2 2

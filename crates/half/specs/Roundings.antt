@@ -47,6 +47,7 @@ pub record RoundsToNearest (F : Format) (e : Exact) (r : ℕ) : Type 0 where
   pub tie : (c : ℕ) → c ≤ F .top + 1 → apart (value F e r) (e .parts) ≡ apart (value F e c) (e .parts) → (c ≡ r) ⊎ (r % 2 ≡ 0)
   pub past : value F e (F .top + 1) < e .parts → r ≡ F .top + 1
 
+-- The relation of each mode.
 abbrev pub Rounds : Format → Mode → Exact → ℕ → Type 0
 Rounds F TowardZero e r = RoundsTowardZero F e r
 Rounds F Nearest e r = RoundsToNearest F e r
@@ -77,9 +78,10 @@ rounded F TowardZero e = floor F e
 rounded F Nearest e = nearer F e (floor F e)
 rounded F Up e = above F e (floor F e)
 
--- The rounded product and sum of two codes; an argument above top gives top + 1.
+-- The rounded product of two codes; an argument above top gives top + 1.
 abbrev pub product : Format → Mode → ℕ → ℕ → ℕ
 product F m a b = within (F .top) a b (rounded F m (exact-product F a b))
 
+-- The rounded sum of two codes; an argument above top gives top + 1.
 abbrev pub sum : Format → Mode → ℕ → ℕ → ℕ
 sum F m a b = within (F .top) a b (rounded F m (exact-sum F a b))

@@ -4,7 +4,7 @@
 --   digits        the whole number that an exact result is held by: digits × 2^shift parts, 2^24 of which make a unit
 --   last place    the lowest bit of the digits that is kept when they are rounded
 -- Assumes nothing.
-use Prim.Native.Nat.{ℕ, _+_, _-_, _*_, _/_, _%_, _^_, _≤_, _<_, min}
+use Prim.Native.Nat.{ℕ, _+_, _-_, _*_, _%_, _^_, _≤_, _<_}
 use mathlib.Core.Bool.{cond}
 use mathlib.Core.Path.{_≡_}
 use lib.Dec.{ltb, eqb}

@@ -2,7 +2,7 @@
 //! small public calls.
 ghost use mathlib.Core.Path.{_≡_};
 ghost use Rattle.half.specs.Formats.{half as binary16};
-ghost use Rattle.half.specs.Laws.{RoundingLaw, HalfLaw, HalfCases};
+ghost use Rattle.half.specs.Laws.{RoundingLaw, HalfLaw, Half-cases};
 use crate::rounding::OVER;
 use crate::rounding::TOP;
 
@@ -18,7 +18,7 @@ fn with_laws(code: u32) -> u32
 /// Hands a code on, beside the worked cases.
 fn with_cases(code: u32) -> u32
     ensures same { λ r. ⌜ r ≡ code ⌝ }
-    ensures cases { λ _. ⌜ HalfCases ⌝ }
+    ensures cases { λ _. ⌜ Half-cases ⌝ }
 {
     code
 }
@@ -35,7 +35,7 @@ pub fn half_top() -> u32
 /// The half drive's answer "over". Its contract names the worked cases.
 pub fn half_over() -> u32
     ensures over { λ r. ⌜ r ≡ 31744 ⌝ }
-    ensures cases { λ _. ⌜ HalfCases ⌝ }
+    ensures cases { λ _. ⌜ Half-cases ⌝ }
 {
     with_cases(OVER)
 }

@@ -1,5 +1,5 @@
 //! The one rounding step of products and sums.
-ghost use Prim.Native.Nat.{ℕ, _+_, _-_, _*_, _/_, _%_, _^_, _<_, _≤_, min, max};
+ghost use Prim.Native.Nat.{_-_, _/_, _%_, _^_, _<_, _≤_, min, max};
 ghost use mathlib.Core.Path.{_≡_};
 ghost use Rattle.half.specs.Formats.{half as binary16, Exact};
 ghost use Rattle.half.specs.Roundings.{rounded};

@@ -1,12 +1,11 @@
 -- Each case by the cell of its exact result: the code below it, how far above that code it is, and how far the next code is.
-use mathlib.Core.Path.{_≡_, refl, ap, _∙_}
-use Prim.Native.Nat.{ℕ, _+_, _≤_, _<_, min}
+use mathlib.Core.Path.{refl, ap}
+use Prim.Native.Nat.{ℕ, min}
 use lib.Dec.{lit<}
 use Rattle.half.specs.Formats.{half, size, Exact, exact-product, exact-sum}
 use Rattle.half.specs.Roundings.{rounded}
-use Rattle.half.specs.Steps.{chosen, limit}
-use Rattle.half.specs.Laws.{Results, HalfCases}
-use Rattle.half.specs.declared.mode.Mode.{Mode}
+use Rattle.half.specs.Steps.{chosen}
+use Rattle.half.specs.Laws.{Results, Half-cases}
 use Rattle.half.specs.declared.mode.Mode.the-variants.{TowardZero, Nearest, Up}
 use Rattle.half.proofs.Cells.{Cell, cell-rounded}
 use Rattle.half.proofs.laws.with_cases.Needs as need
@@ -20,7 +19,8 @@ results e c rest step cell = record {
   mode-2 = ap (λ x. min x 31744) (cell-rounded half e 1 c rest step cell Up);
 }
 
-cases : HalfCases
+-- All cases.
+cases : Half-cases
 unfolding size
 cases = record {
   product-normal = results (exact-product half 15361 15361) 15362 268435456 274877906944 record { scaled = lit< tt; finer = lit< tt; at = refl; next = refl; within = lit< tt };

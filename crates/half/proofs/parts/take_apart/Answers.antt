@@ -1,5 +1,5 @@
 -- By the exponent: a code below 1024 is its own size, and any other has the one bit above its fraction.
-use mathlib.Core.Path.{_≡_, ap, sym, _∙_}
+use mathlib.Core.Path.{_≡_, ap, _∙_}
 use Prim.Native.Nat.{ℕ, _+_, _*_, _-_, _/_, _%_, _≤_, _<_}
 use native.Mathlib.Omega.{arith}
 use lib.Bits.{bitOr}
@@ -9,6 +9,7 @@ use Rattle.half.specs.Steps.{Parted}
 use Rattle.half.proofs.Sizes.{size-low, size-of}
 use Rattle.half.proofs.parts.take_apart.Needs as need
 
+-- A code with the exponent 0.
 low : (code fraction : ℕ) → code / 1024 ≡ 0 → fraction ≡ code % 1024 → Parted code fraction 0
 low code fraction none is =
     let same : code ≡ fraction = omega arith in record {
@@ -18,6 +19,7 @@ low code fraction none is =
       normal = omega arith;
     }
 
+-- A code with an exponent above 0.
 high : (code fraction : ℕ) → code ≤ 31743 → 0 < code / 1024 → fraction ≡ code % 1024 → Parted code (bitOr fraction 1024) (code / 1024 - 1)
 high code fraction top some is =
     let set : bitOr fraction 1024 ≡ 1024 + fraction = or-comm fraction 1024 ∙ or-shifted 1 10 fraction (omega arith) in

@@ -1,14 +1,15 @@
 -- Significands multiply and shifts add.
-use mathlib.Core.Path.{_≡_, ap, ap₂, sym, _∙_}
+use mathlib.Core.Path.{_≡_, ap, ap₂}
 use Prim.Native.Nat.{ℕ, _+_, _*_, _^_, _≤_, _<_}
 use native.Mathlib.Nat.{mul-le-mul}
 use native.Mathlib.Omega.{arith}
 use lib.Pow.{pow-add, pow-pos}
 use Rattle.std.proofs.shelf.Bits.{mul-lt}
-use Rattle.half.specs.Formats.{half, size, exact-product}
-use Rattle.half.specs.Steps.{Parted, StandsFor}
+use Rattle.half.specs.Formats.{half, size}
+use Rattle.half.specs.Steps.{Parted}
 use Rattle.half.proofs.product.exact.Needs as need
 
+-- Two significands make a product of 22 bits.
 small : (a b s t j k : ℕ) → Parted a s j → Parted b t k → s * t < 2 ^ 41
 small a b s t j k p q = omega (arith, mul-lt s t 2048 2048 (p .narrow) (q .narrow))
 
@@ -19,6 +20,7 @@ some a b s t j k p q h =
     let second : 1024 ≤ t = q .normal (omega (arith, p .low)) in
     omega (arith, mul-le-mul {n₁ = 1024} {m₁ = 1024} first second)
 
+-- The product of the sizes, from the parts of both.
 same : (a b s t j k : ℕ) → Parted a s j → Parted b t k → size half a * size half b * 2 ^ 24 ≡ s * t * 2 ^ (j + k) * 2 ^ 24
 same a b s t j k p q =
     let both : size half a * size half b ≡ (s * 2 ^ j) * (t * 2 ^ k) = ap₂ (λ x y. x * y) (p .whole) (q .whole) in

@@ -1,10 +1,10 @@
 -- The nudge carries into the digits kept exactly where the mode goes up.
-use mathlib.Core.Path.{_≡_, ap, sym, _∙_, subst}
+use mathlib.Core.Path.{_≡_}
 use Prim.Native.Nat.{ℕ, _+_, _-_, _*_, _/_, _%_, _^_, _≤_, _<_}
 use native.Mathlib.Omega.{arith}
 use lib.Bits.{bitAnd}
 use lib.Pow.{pow-pos, pow-mono}
-use Rattle.std.proofs.shelf.Bits.{one-shl, and-mask, mod-below}
+use Rattle.std.proofs.shelf.Bits.{one-shl, and-mask}
 use Rattle.half.specs.Steps.{chosen, nudge}
 use Rattle.half.specs.declared.mode.Mode.{Mode}
 use Rattle.half.specs.declared.mode.Mode.the-variants.{TowardZero, Nearest, Up}
@@ -12,16 +12,19 @@ use Rattle.half.proofs.Cells.{nudged}
 use Rattle.half.proofs.Placed.{pow-double}
 use Rattle.half.proofs.rounding.kept.Needs as need
 
--- Half a step, as it is shifted into place, and the lowest digit kept.
+-- Half a step, as it is shifted into place.
 half-is : (place : ℕ) → place ≤ 41 → (1 * 2 ^ (place - 1)) % 2 ^ 64 ≡ 2 ^ (place - 1)
 half-is place low = one-shl (place - 1) 64 (omega arith)
 
+-- The lowest digit kept, as it is masked.
 odd-is : (n : ℕ) → bitAnd n 1 ≡ n % 2
 odd-is n = and-mask n 1
 
+-- Half a step has 41 bits at most.
 half-low : (place : ℕ) → place ≤ 41 → 2 ^ (place - 1) ≤ 2 ^ 40
 half-low place low = pow-mono {j = 40} (omega arith)
 
+-- A nudge is at most a step.
 nudge-low : (m : Mode) (half odd : ℕ) → half ≤ 2 ^ 40 → odd < 2 → nudge m half odd ≤ 2 ^ 41
 nudge-low TowardZero half odd h o = omega arith
 nudge-low Nearest half odd h o = omega arith

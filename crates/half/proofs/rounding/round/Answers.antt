@@ -14,6 +14,7 @@ use Rattle.half.proofs.rounding.round.Needs as need
 wide : (digits : ℕ) → digits < 2 ^ 41 → digits * 2048 % 2 ^ 64 ≡ digits * 2048
 wide digits h = omega arith
 
+-- No mode answers more than top + 1.
 limit-low : (m : Mode) → limit half m ≤ 31744
 limit-low TowardZero = omega arith
 limit-low Nearest = omega arith

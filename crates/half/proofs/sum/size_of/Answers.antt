@@ -1,14 +1,14 @@
 -- The significand, shifted, loses nothing in 64 bits.
-use mathlib.Core.Path.{_≡_, ap, sym, _∙_}
+use mathlib.Core.Path.{_≡_, sym, _∙_}
 use Prim.Native.Nat.{ℕ, _*_, _^_, _%_, _≤_, _<_}
-use native.Mathlib.Nat.{mul-lt-mul-of-pos-right, mul-le-mul-right}
 use native.Mathlib.Omega.{arith}
-use lib.Pow.{pow-pos, pow-mono}
+use lib.Pow.{pow-mono}
 use Rattle.std.proofs.shelf.Bits.{shl-whole, mul-le}
 use Rattle.half.specs.Formats.{half, size}
 use Rattle.half.specs.Steps.{Parted}
 use Rattle.half.proofs.sum.size_of.Needs as need
 
+-- The shifted significand is the size, of 40 bits.
 shifted : (code s k : ℕ) → Parted code s k → ((s * 2 ^ k) % 2 ^ 64 ≡ size half code) × ((s * 2 ^ k) % 2 ^ 64 < 2 ^ 40)
 shifted code s k p =
     let whole = shl-whole s 11 k 64 (p .narrow) (omega (arith, p .low)) in
