@@ -4,7 +4,7 @@ ghost use Rattle.boxes.specs.Walks.{Reaches};
 use codes::operation::Operation;
 
 /// The first code from `low` before `high` whose result with `x` is at least `t`, by halving; else `high`.
-pub fn halve<O: Operation>(op: &O, x: u32, mut low: u32, mut high: u32, t: u32) -> u32
+pub(crate) fn halve<O: Operation>(op: &O, x: u32, mut low: u32, mut high: u32, t: u32) -> u32
     requires { ⌜ low ≤ high ⌝ }
     ensures { λ r. ⌜ Reaches (code (now (op .entry)) x) low high t r ⌝ }
 {
@@ -20,7 +20,7 @@ pub fn halve<O: Operation>(op: &O, x: u32, mut low: u32, mut high: u32, t: u32) 
 }
 
 /// The first code from `from` before `end` whose result with `x` is at least `t`, or `end`: looked for in growing steps from below.
-pub fn rise<O: Operation>(op: &O, x: u32, from: u32, end: u32, t: u32) -> u32
+pub(crate) fn rise<O: Operation>(op: &O, x: u32, from: u32, end: u32, t: u32) -> u32
     requires { ⌜ from ≤ end ⌝ ∗ ⌜ end < 2147483648 ⌝ }
     ensures { λ r. ⌜ Reaches (code (now (op .entry)) x) from end t r ⌝ }
 {
@@ -38,7 +38,7 @@ pub fn rise<O: Operation>(op: &O, x: u32, from: u32, end: u32, t: u32) -> u32
 }
 
 /// The same code as `rise` finds, looked for in growing steps from above.
-pub fn fall<O: Operation>(op: &O, x: u32, from: u32, end: u32, t: u32) -> u32
+pub(crate) fn fall<O: Operation>(op: &O, x: u32, from: u32, end: u32, t: u32) -> u32
     requires { ⌜ from ≤ end ⌝ ∗ ⌜ end < 2147483648 ⌝ }
     ensures { λ r. ⌜ Reaches (code (now (op .entry)) x) from end t r ⌝ }
 {

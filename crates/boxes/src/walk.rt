@@ -11,7 +11,7 @@ use codes::swapped::SwappedOperation;
 
 /// The hit with the least first and the greatest second code of all hits in the field, or `None` where there is no hit.
 /// As long as the result is too low only a greater first code can help, as long as it is too high only a lesser second one.
-pub fn corner<O: Operation + Copy>(op: O, field: Field) -> Option<Point>
+pub(crate) fn corner<O: Operation + Copy>(op: O, field: Field) -> Option<Point>
     ensures { λ r. ⌜ Cornered (code op) field r ⌝ }
 {
     let across = Swapped { op };
@@ -67,7 +67,7 @@ fn above(field: Field, best: Point) -> Field
 }
 
 /// The least result of all hits, from the corner on: each walk goes through the results below the best so far.
-pub fn least<O: Operation + Copy>(op: O, field: Field, start: Point) -> u32
+pub(crate) fn least<O: Operation + Copy>(op: O, field: Field, start: Point) -> u32
     requires { ⌜ Corner (code op) field start ⌝ }
     ensures { λ r. ⌜ Least (code op) field r ⌝ }
 {
@@ -86,7 +86,7 @@ pub fn least<O: Operation + Copy>(op: O, field: Field, start: Point) -> u32
 }
 
 /// The greatest result of all hits, from the corner on: each walk goes through the results above the best so far.
-pub fn greatest<O: Operation + Copy>(op: O, field: Field, start: Point) -> u32
+pub(crate) fn greatest<O: Operation + Copy>(op: O, field: Field, start: Point) -> u32
     requires { ⌜ Corner (code op) field start ⌝ }
     ensures { λ r. ⌜ Greatest (code op) field r ⌝ }
 {

@@ -9,7 +9,8 @@ counter-top = 65535
 
 -- a × b divided by 1000, the remainder dropped.
 abbrev pub counter-product : ℕ → ℕ → ℕ
-counter-product a b = within 65535 a b (a * b / 1000)
+counter-product a b = within counter-top a b (a * b / 1000)
 
+-- a + b.
 abbrev pub counter-sum : ℕ → ℕ → ℕ
-counter-sum a b = within 65535 a b (a + b)
+counter-sum a b = within counter-top a b (a + b)

@@ -1,11 +1,11 @@
 -- The law of the sheet, from what every sheet reached keeps.
 -- Assumes nothing.
-use Prim.Native.Nat.{ℕ, _+_}
+use Prim.Native.Nat.{ℕ, zero, suc, _+_, _-_}
 use mathlib.Core.Bool.{Bool, true, false}
 use mathlib.Core.List.{List, [], _∷_, _++_}
 use mathlib.Core.Path.{_≡_, refl, sym, ap, subst}
 use native.Mathlib.Omega.{arith}
-use lib.ListN.{length, length-append}
+use lib.ListN.{length, drop, length-append}
 use Rattle.std.proofs.shelf.Tests.{both-ways}
 use Rattle.windows.specs.Meanings.{Meaning}
 use Rattle.windows.specs.Spans.{Every}
@@ -15,12 +15,12 @@ use Rattle.law.specs.declared.calls.Call.{Call}
 use Rattle.law.specs.declared.calls.Answer.{Answer}
 use Rattle.law.specs.Sheets.{Core, Model, empty}
 use Rattle.law.specs.Runs.{Ending, standing, spent, barren}
-use Rattle.law.specs.Histories.{Entry, History, entry, accepted, followed, history}
+use Rattle.law.specs.Histories.{Entry, History, entry, accepted, earliest, followed, history}
 use Rattle.law.specs.Steps.{settled, with-core, told, Does, Steps, refused, does, Reached, set-up, called}
 use Rattle.law.specs.Force.{tries, In-force}
 use Rattle.law.specs.Boxes.{Held, Greatest}
 use Rattle.law.specs.Sound.{Sound-core, Sound}
-use Rattle.law.specs.Law.{Brought-back, Lawful, Called, Played}
+use Rattle.law.specs.Law.{Along, Brought-back, Lawful, Called, Played}
 use Rattle.law.proofs.Verdicts.{strike-taken}
 use Rattle.law.proofs.Soundness.{sound-ordered, sound-steps}
 use Rattle.law.proofs.Cores.{Fitting}
@@ -142,6 +142,7 @@ lawful m id h s r =
       brought-back = λ number depth answer g q a.
           let l = last r (Call.Strike number depth) answer g q in
           strike-back m id g (l .before) s number depth answer a (l .reached) (l .step);
+      keeps = f .greatest;
       within = f .within;
       same-rules = f .same-rules;
       same-tries = stack-length m id h (tries h) (s .saved) (p .stack);
@@ -178,10 +179,22 @@ pub history-more :
 unfolding history
 history-more calls answers call answer p = followed-more [] calls answers call answer p
 
+-- What a history leads to, some entries earlier.
+earlier : {m : Meaning} {id : ℕ} {h : History} {s : Model} → Reached m id h s → (k : ℕ) → (t : Model) × Reached m id (drop k h) t
+earlier {s = s} r zero = (s, r)
+earlier set-up (suc k) = (empty, set-up)
+earlier (called r p) (suc k) = earlier r k
+
+-- The law holds on the way.
+pub law-along : (m : Meaning) (id : ℕ) (h : History) (s : Model) → Reached m id h s → (k : ℕ) → Along m id (earliest k h)
+law-along m id h s r k =
+    let x = earlier r (length h - k) in
+    record { sheet = x .0; reached = x .1; law = lawful m id (earliest k h) (x .0) (x .1) }
+
 -- No call at all leads to the sheet just set up.
 pub played-none : (m : Meaning) (id : ℕ) → Played m id [] [] empty
 unfolding history
-played-none m id = record { answered = refl; reached = set-up; law = lawful m id [] empty set-up }
+played-none m id = record { answered = refl; reached = set-up; law = lawful m id [] empty set-up; along = law-along m id [] empty set-up }
 
 -- One more call.
 pub played-more :
@@ -197,4 +210,5 @@ played-more m id calls answers s t call answer p q =
       answered = simp length-append (omega arith);
       reached = r;
       law = lawful m id (history (calls ++ (call ∷ [])) (answers ++ (answer ∷ []))) t r;
+      along = law-along m id (history (calls ++ (call ∷ [])) (answers ++ (answer ∷ []))) t r;
     }

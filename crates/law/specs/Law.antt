@@ -11,7 +11,7 @@ use mathlib.Core.List.{List, _∷_}
 use mathlib.Core.Path.{_≡_}
 use lib.ListN.{length}
 use Rattle.windows.specs.Meanings.{Meaning}
-use Rattle.windows.specs.Spans.{Within}
+use Rattle.windows.specs.Spans.{Span, Within}
 use Rattle.law.specs.declared.calls.State.{State}
 use Rattle.law.specs.declared.calls.Call.{Call}
 use Rattle.law.specs.declared.calls.Answer.{Answer}
@@ -19,7 +19,7 @@ use Rattle.law.specs.Sheets.{Core, Model}
 use Rattle.law.specs.Histories.{History, entry, accepted, earliest, history}
 use Rattle.law.specs.Steps.{Settles, Steps, Reached}
 use Rattle.law.specs.Force.{tries, In-force, rules-in, windows-in}
-use Rattle.law.specs.Boxes.{Greatest, None-stands}
+use Rattle.law.specs.Boxes.{Greatest, None-stands, Stands-within}
 use Rattle.law.specs.Sound.{Sound}
 
 -- Settle with the allowance n, after the history g, led to t and answered as the run of settle ends.
@@ -53,6 +53,8 @@ pub record Law (m : Meaning) (id : ℕ) (h : History) (s : Model) : Type 0 where
   pub brought-back :
       (number depth : ℕ) (answer : Answer) (g : History) → h ≡ entry (Call.Strike number depth) answer ∷ g → accepted answer ≡ true →
       Brought-back m id g (s .core)
+  -- no box that stands within the windows in force is ever lost from the sheet's windows, in whichever state
+  pub keeps : (vs : List Span) → Stands-within m (rules-in (In-force h)) (windows-in (In-force h)) vs → Within vs (s .core .windows)
   -- the sheet has a window for each line in force, within its window in force, and the rules in force
   pub within : Within (s .core .windows) (windows-in (In-force h))
   pub same-rules : s .core .rules ≡ rules-in (In-force h)
@@ -73,8 +75,16 @@ pub record Called (m : Meaning) (id : ℕ) (s : Model) (call : Call) (t : Model)
   pub reached : (h : History) → Reached m id h s → Reached m id (entry call answer ∷ h) t
   pub law : (h : History) → Reached m id h s → Law m id (entry call answer ∷ h) t
 
+-- Some sheet that the history leads to, and the law of both.
+pub record Along (m : Meaning) (id : ℕ) (h : History) : Type 0 where
+  pub sheet : Model
+  pub reached : Reached m id h sheet
+  pub law : Law m id h sheet
+
 -- The calls, made in this order on a sheet just set up, led to s with these answers; and the law holds.
 pub record Played (m : Meaning) (id : ℕ) (calls : List Call) (answers : List Answer) (s : Model) : Type 0 where
   pub answered : length answers ≡ length calls
   pub reached : Reached m id (history calls answers) s
   pub law : Law m id (history calls answers) s
+  -- and on the way: after the first k of the calls, for each k
+  pub along : (k : ℕ) → Along m id (earliest k (history calls answers))

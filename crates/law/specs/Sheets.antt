@@ -40,7 +40,7 @@ most-tries = 8
 abbrev pub between : ℕ → ℕ → Span
 between lo hi = record { lo = lo; hi = hi }
 
--- The window of line k.
+-- The window of line k, counted from 1; a number that no line has is given a window too, which no accepted call reads.
 abbrev pub window : List Span → ℕ → Span
 window ws k = getD ws (k - 1) nowhere
 

@@ -19,8 +19,7 @@ use Rattle.law.specs.declared.calls.Refusal.the-variants.{Ends, NoLine, Twice,
 use Rattle.law.specs.declared.table.Check.{Check}
 use Rattle.law.specs.Sheets.{Model, window, named-by, cut, most-lines, most-rules, most-tries}
 
--- A refusal, and whether its case applies.
--- The check of a case.
+-- The check of a case: its refusal, and whether it applies.
 abbrev pub check : Refusal → Bool → Check
 check why applies = record { why = why; applies = applies }
 

@@ -20,11 +20,12 @@ fn plays(
     windows: &[(u32, u32)],
 ) -> Result<(), Fail> {
     let replay = Replay::of(rt.alloc(), 7, CounterBook, calls)?;
-    check(replay.answers.len() == answers.len())?;
-    for (got, want) in replay.answers.iter().zip(answers.iter()) {
+    let given = replay.answers();
+    check(given.len() == answers.len())?;
+    for (got, want) in given.iter().zip(answers.iter()) {
         check_eq(*got, *want)?;
     }
-    let shown = replay.sheet.all_windows();
+    let shown = replay.sheet().all_windows();
     check(shown.len() == windows.len())?;
     for (got, want) in shown.iter().zip(windows.iter()) {
         check(got.lo() == want.0 && got.hi() == want.1)?;

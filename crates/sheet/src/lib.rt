@@ -7,4 +7,5 @@ pub mod sheet;
 mod snapshot;
 mod state;
 mod tables;
+pub mod theorems;
 pub mod ticket;

@@ -10,8 +10,8 @@ use books::narrowing::Triple;
 use law::calls::Rule;
 use windows::window::Window;
 
-/// The window of line `k`; where there is no such line, the window of code 0.
-pub fn window_at(lines: &[Window], k: u32) -> Window
+/// The window of line `k`, counted from 1 (0 is read as 1); past the last line, the window of code 0.
+pub(crate) fn window_at(lines: &[Window], k: u32) -> Window
     ensures { λ r. ⌜ span r ≡ window (map span (now (lines .entry))) k ⌝ }
 {
     let i = k.saturating_sub(1) as usize;
@@ -23,7 +23,7 @@ pub fn window_at(lines: &[Window], k: u32) -> Window
 }
 
 /// The windows of the lines that a rule names.
-pub fn windows_of(lines: &[Window], rule: Rule) -> Triple
+pub(crate) fn windows_of(lines: &[Window], rule: Rule) -> Triple
     ensures { λ r. ⌜ spans r ≡ map (window (map span (now (lines .entry)))) (rule .a ∷ rule .b ∷ rule .c ∷ []) ⌝ }
 {
     Triple {
@@ -33,8 +33,8 @@ pub fn windows_of(lines: &[Window], rule: Rule) -> Triple
     }
 }
 
-/// Gives line `k` the window `w`, if there is such a line.
-pub fn put_at(lines: &mut [Window], k: u32, w: Window)
+/// Gives line `k`, counted from 1 (0 is read as 1), the window `w`; past the last line nothing changes.
+pub(crate) fn put_at(lines: &mut [Window], k: u32, w: Window)
     ensures { λ _. ⌜ map span (now (lines .exit)) ≡ set (map span (now (lines .entry))) (k - 1) (span w) ⌝ }
 {
     let i = k.saturating_sub(1) as usize;
@@ -44,7 +44,7 @@ pub fn put_at(lines: &mut [Window], k: u32, w: Window)
 }
 
 /// What lies in the window and in `lo` to `hi` as well, where anything does.
-pub fn cut_down(present: Window, lo: u32, hi: u32) -> Window
+pub(crate) fn cut_down(present: Window, lo: u32, hi: u32) -> Window
     ensures { λ r. ⌜ span r ≡ spanning (max (present .lo) lo) (min (present .hi) hi) ⌝ }
 {
     Window::spanning(present.lo().max(lo), present.hi().min(hi))

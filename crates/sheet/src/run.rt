@@ -125,7 +125,7 @@ fn play_round<B: Book>(book: &B, rules: &[Rule], lines: &mut [Window], n: u32, s
 }
 
 /// The run of settle with an allowance of `n` narrowings. Where it ends barren, the windows are left as they came to be.
-pub fn run<B: Book>(book: &B, rules: &[Rule], lines: &mut [Window], n: u32) -> Settled
+pub(crate) fn run<B: Book>(book: &B, rules: &[Rule], lines: &mut [Window], n: u32) -> Settled
     requires { ⌜ length (now rules) ≤ 128 ⌝ }
     ensures { λ r. ⌜ (Ready (meaning top arity counts (related (now (book .entry)))) (now (rules .entry)) (map span (now (lines .entry)))
         → Ended (meaning top arity counts (related (now (book .entry)))) (now (rules .entry)) n (map span (now (lines .entry))) (map span (now (lines .exit))) r) ⌝ }
@@ -142,7 +142,7 @@ pub fn run<B: Book>(book: &B, rules: &[Rule], lines: &mut [Window], n: u32) -> S
 }
 
 /// Settles the windows of `lines`: where the run ends barren, they are brought back as they were.
-pub fn settle_lines<B: Book>(
+pub(crate) fn settle_lines<B: Book>(
     book: &B,
     rules: &Vec<Rule>,
     lines: &mut Vec<Window>,

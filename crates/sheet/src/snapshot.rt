@@ -6,7 +6,7 @@ ghost use Rattle.std.specs.Of.Vec.{vec-cap, vec-items, vec-len};
 use windows::window::Window;
 
 /// The windows of up to 64 lines, as they are now; the places past the last line hold the window of code 0.
-pub fn snapshot(lines: &Vec<Window>) -> [Window; 64]
+pub(crate) fn snapshot(lines: &Vec<Window>) -> [Window; 64]
     requires { ⌜ vec-len (now lines) ≤ 64 ⌝ }
     ensures { λ r. ⌜ take (vec-len (now (lines .entry))) r ≡ vec-items (now (lines .entry)) ⌝ }
 {
@@ -18,7 +18,7 @@ pub fn snapshot(lines: &Vec<Window>) -> [Window; 64]
 }
 
 /// Brings `count` windows back.
-pub fn bring_back(lines: &mut Vec<Window>, windows: &[Window; 64], count: usize)
+pub(crate) fn bring_back(lines: &mut Vec<Window>, windows: &[Window; 64], count: usize)
     requires { ⌜ count ≤ 64 ⌝ ∗ ⌜ 64 ≤ vec-cap (now lines) ⌝ }
     ensures items { λ _. ⌜ vec-items (now (lines .exit)) ≡ take count (now (windows .entry)) ⌝ }
     ensures len { λ _. ⌜ vec-len (now (lines .exit)) ≡ count ⌝ }

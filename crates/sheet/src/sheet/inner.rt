@@ -5,6 +5,7 @@ ghost use Rattle.law.specs.declared.calls.Answer.{Answer};
 ghost use Rattle.law.specs.declared.calls.Call.{Call};
 ghost use Rattle.law.specs.Faults.{fault};
 ghost use Rattle.law.specs.Law.{Called};
+ghost use Rattle.law.specs.Steps.{Steps};
 ghost use Rattle.law.specs.Table.{is-barren, verdict};
 ghost use Rattle.sheet.specs.Answers.{begun, ended, numbered, pinched, settled};
 ghost use Rattle.sheet.specs.Rounds.{meaning};
@@ -27,6 +28,7 @@ impl<B: Book> Sheet<B> {
     /// Adds a line.
     pub(super) fn take_line(&mut self, lo: u32, hi: u32) -> Result<u32, Refusal>
         ensures called { λ r. ⌜ Called (meaning top arity counts (related (now (self .entry) .book))) (now (self .entry) .number) (model (now (self .entry) .tables)) (Call.Line lo hi) (model (now (self .exit) .tables)) (numbered r) ⌝ }
+        ensures step { λ r. ⌜ Steps (meaning top arity counts (related (now (self .entry) .book))) (now (self .entry) .number) (model (now (self .entry) .tables)) (Call.Line lo hi) (model (now (self .exit) .tables)) (numbered r) ⌝ }
         ensures number { λ _. ⌜ now (self .exit) .number ≡ now (self .entry) .number ⌝ }
         ensures book { λ _. ⌜ now (self .exit) .book ≡ now (self .entry) .book ⌝ }
     {
@@ -39,6 +41,7 @@ impl<B: Book> Sheet<B> {
     /// Adds a rule.
     pub(super) fn take_rule(&mut self, rule: Rule) -> Result<u32, Refusal>
         ensures called { λ r. ⌜ Called (meaning top arity counts (related (now (self .entry) .book))) (now (self .entry) .number) (model (now (self .entry) .tables)) (Call.Rule rule) (model (now (self .exit) .tables)) (numbered r) ⌝ }
+        ensures step { λ r. ⌜ Steps (meaning top arity counts (related (now (self .entry) .book))) (now (self .entry) .number) (model (now (self .entry) .tables)) (Call.Rule rule) (model (now (self .exit) .tables)) (numbered r) ⌝ }
         ensures number { λ _. ⌜ now (self .exit) .number ≡ now (self .entry) .number ⌝ }
         ensures book { λ _. ⌜ now (self .exit) .book ≡ now (self .entry) .book ⌝ }
     {
@@ -51,6 +54,7 @@ impl<B: Book> Sheet<B> {
     /// Cuts a line's window down.
     pub(super) fn take_pinch(&mut self, line: u32, lo: u32, hi: u32) -> Result<(), Refusal>
         ensures called { λ r. ⌜ Called (meaning top arity counts (related (now (self .entry) .book))) (now (self .entry) .number) (model (now (self .entry) .tables)) (Call.Pinch line lo hi) (model (now (self .exit) .tables)) (pinched r) ⌝ }
+        ensures step { λ r. ⌜ Steps (meaning top arity counts (related (now (self .entry) .book))) (now (self .entry) .number) (model (now (self .entry) .tables)) (Call.Pinch line lo hi) (model (now (self .exit) .tables)) (pinched r) ⌝ }
         ensures number { λ _. ⌜ now (self .exit) .number ≡ now (self .entry) .number ⌝ }
         ensures book { λ _. ⌜ now (self .exit) .book ≡ now (self .entry) .book ⌝ }
     {
@@ -75,6 +79,7 @@ impl<B: Book> Sheet<B> {
     /// Begins a try, and answers its depth.
     pub(super) fn begin(&mut self) -> Result<u32, Refusal>
         ensures called { λ r. ⌜ Called (meaning top arity counts (related (now (self .entry) .book))) (now (self .entry) .number) (model (now (self .entry) .tables)) Call.Open (model (now (self .exit) .tables)) (begun (now (self .entry) .number) r) ⌝ }
+        ensures step { λ r. ⌜ Steps (meaning top arity counts (related (now (self .entry) .book))) (now (self .entry) .number) (model (now (self .entry) .tables)) Call.Open (model (now (self .exit) .tables)) (begun (now (self .entry) .number) r) ⌝ }
         ensures number { λ _. ⌜ now (self .exit) .number ≡ now (self .entry) .number ⌝ }
         ensures book { λ _. ⌜ now (self .exit) .book ≡ now (self .entry) .book ⌝ }
         ensures innermost { λ r. ⌜ made r (λ depth. Innermost (now (self .entry) .number) (model (now (self .exit) .tables)) (now (self .entry) .number) depth) ⌝ }
@@ -97,6 +102,7 @@ impl<B: Book> Sheet<B> {
     /// Ends the try of this depth, by a ticket of the sheet of this number; what was done in it stays.
     pub(super) fn end_keeping(&mut self, number: u32, depth: u32) -> Result<(), Refusal>
         ensures called { λ r. ⌜ Called (meaning top arity counts (related (now (self .entry) .book))) (now (self .entry) .number) (model (now (self .entry) .tables)) (Call.Keep number depth) (model (now (self .exit) .tables)) (ended Answer.Kept r) ⌝ }
+        ensures step { λ r. ⌜ Steps (meaning top arity counts (related (now (self .entry) .book))) (now (self .entry) .number) (model (now (self .entry) .tables)) (Call.Keep number depth) (model (now (self .exit) .tables)) (ended Answer.Kept r) ⌝ }
         ensures number { λ _. ⌜ now (self .exit) .number ≡ now (self .entry) .number ⌝ }
         ensures book { λ _. ⌜ now (self .exit) .book ≡ now (self .entry) .book ⌝ }
         ensures accepts { λ r. ⌜ (Innermost (now (self .entry) .number) (model (now (self .entry) .tables)) number depth → is-barren (model (now (self .entry) .tables) .core .state) ≡ false → isOk r ≡ true) ⌝ }
@@ -109,6 +115,7 @@ impl<B: Book> Sheet<B> {
     /// The same, and what its open found is brought back.
     pub(super) fn end_striking(&mut self, number: u32, depth: u32) -> Result<(), Refusal>
         ensures called { λ r. ⌜ Called (meaning top arity counts (related (now (self .entry) .book))) (now (self .entry) .number) (model (now (self .entry) .tables)) (Call.Strike number depth) (model (now (self .exit) .tables)) (ended Answer.Struck r) ⌝ }
+        ensures step { λ r. ⌜ Steps (meaning top arity counts (related (now (self .entry) .book))) (now (self .entry) .number) (model (now (self .entry) .tables)) (Call.Strike number depth) (model (now (self .exit) .tables)) (ended Answer.Struck r) ⌝ }
         ensures number { λ _. ⌜ now (self .exit) .number ≡ now (self .entry) .number ⌝ }
         ensures book { λ _. ⌜ now (self .exit) .book ≡ now (self .entry) .book ⌝ }
         ensures accepts { λ r. ⌜ (Innermost (now (self .entry) .number) (model (now (self .entry) .tables)) number depth → isOk r ≡ true) ⌝ }

@@ -18,8 +18,24 @@ use std::alloc::Global;
 /// A sheet that calls were played on, and what each answered.
 #[derive(Drop)]
 pub struct Replay<B: Book> {
-    pub sheet: Sheet<B>,
-    pub answers: Vec<Answer>,
+    sheet: Sheet<B>,
+    answers: Vec<Answer>,
+}
+
+impl<B: Book> Replay<B> {
+    /// The sheet as the calls left it, to be read.
+    pub fn sheet(&self) -> &Sheet<B>
+        ensures { λ r. ⌜ now r ≡ now (self .entry) .sheet ⌝ }
+    {
+        &self.sheet
+    }
+
+    /// What each call answered, in their order.
+    pub fn answers(&self) -> &[Answer]
+        ensures { λ r. ⌜ now r ≡ vec-items (now (self .entry) .answers) ⌝ }
+    {
+        self.answers.as_slice()
+    }
 }
 
 impl<B: Book> Sheet<B> {
@@ -88,16 +104,21 @@ fn opened(number: u32, result: Result<u32, Refusal>) -> Answer
 
 impl<B: Book + Drop> Replay<B> {
     /// Plays the calls, in their order, on a sheet set up empty. A keep or a strike is handed in as the number and the depth of
-    /// its ticket; no ticket is made, so none is left unspent.
+    /// its ticket; no ticket is made, so none is left unspent,
+    /// and the sheet can only be read afterwards.
     pub fn of(heap: Global, number: u32, book: B, calls: &[Call]) -> Result<Replay<B>, AllocError>
-        ensures { λ r. ⌜ made r (λ p. Played (meaning top arity counts (related book)) number (now (calls .entry)) (vec-items (p .answers)) (model (p .sheet .tables))) ⌝ }
+        ensures played { λ r. ⌜ made r (λ p. Played (meaning top arity counts (related book)) number (now (calls .entry)) (vec-items (p .answers)) (model (p .sheet .tables))) ⌝ }
+        ensures number { λ r. ⌜ made r (λ p. p .sheet .number ≡ number) ⌝ }
+        ensures book { λ r. ⌜ made r (λ p. p .sheet .book ≡ book) ⌝ }
     {
         Replay::played(heap, number, book, calls)
     }
 
     /// The same, call by call.
     fn played(heap: Global, number: u32, book: B, calls: &[Call]) -> Result<Replay<B>, AllocError>
-        ensures { λ r. ⌜ made r (λ p. Played (meaning top arity counts (related book)) number (now (calls .entry)) (vec-items (p .answers)) (model (p .sheet .tables))) ⌝ }
+        ensures played { λ r. ⌜ made r (λ p. Played (meaning top arity counts (related book)) number (now (calls .entry)) (vec-items (p .answers)) (model (p .sheet .tables))) ⌝ }
+        ensures number { λ r. ⌜ made r (λ p. p .sheet .number ≡ number) ⌝ }
+        ensures book { λ r. ⌜ made r (λ p. p .sheet .book ≡ book) ⌝ }
     {
         let mut sheet = Sheet::new(heap, number, book)?;
         let mut answers = Vec::new(heap);

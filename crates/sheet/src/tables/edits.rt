@@ -30,7 +30,7 @@ use windows::window::Window;
 
 impl Tables {
     /// Empty tables, with the room that they will ever need.
-    pub fn new(heap: Global) -> Result<Tables, AllocError>
+    pub(crate) fn new(heap: Global) -> Result<Tables, AllocError>
         ensures { λ r. ⌜ made r (λ t. model t ≡ empty) ⌝ }
     {
         Ok(Tables {
@@ -42,7 +42,7 @@ impl Tables {
     }
 
     /// One more line.
-    pub fn add_line(&mut self, window: Window, next: State)
+    pub(crate) fn add_line(&mut self, window: Window, next: State)
         requires { ⌜ vec-len (now self .lines) < 64 ⌝ }
         ensures { λ _. ⌜ model (now (self .exit)) ≡ with-core (model (now (self .entry))) (lined-as next (core (now (self .entry))) (span window)) ⌝ }
     {
@@ -51,7 +51,7 @@ impl Tables {
     }
 
     /// One more rule.
-    pub fn add_rule(&mut self, rule: Rule, next: State)
+    pub(crate) fn add_rule(&mut self, rule: Rule, next: State)
         requires { ⌜ vec-len (now self .rules) < 128 ⌝ }
         ensures { λ _. ⌜ model (now (self .exit)) ≡ with-core (model (now (self .entry))) (ruled-as next (core (now (self .entry))) rule) ⌝ }
     {
@@ -60,7 +60,7 @@ impl Tables {
     }
 
     /// Another window for line `k`.
-    pub fn set_window(&mut self, k: u32, window: Window, next: State)
+    pub(crate) fn set_window(&mut self, k: u32, window: Window, next: State)
         ensures { λ _. ⌜ model (now (self .exit)) ≡ with-core (model (now (self .entry))) (pinched-as next (core (now (self .entry))) k (span window)) ⌝ }
     {
         put_at(self.lines.as_mut_slice(), k, window);
@@ -83,7 +83,7 @@ impl Tables {
     }
 
     /// Begins a try: puts aside what the sheet holds.
-    pub fn begin_try(&mut self)
+    pub(crate) fn begin_try(&mut self)
         requires { ⌜ vec-len (now self .tries) < 8 ⌝ }
         ensures { λ _. ⌜ model (now (self .exit)) ≡ opened-as (model (now (self .entry))) ⌝ }
     {
@@ -92,14 +92,14 @@ impl Tables {
     }
 
     /// Ends the innermost try; what was done in it stays.
-    pub fn keep_try(&mut self)
+    pub(crate) fn keep_try(&mut self)
         ensures { λ _. ⌜ model (now (self .exit)) ≡ kept-as (model (now (self .entry))) ⌝ }
     {
         let _ = self.tries.pop();
     }
 
     /// Ends the innermost try, and brings back what its open found.
-    pub fn strike_try(&mut self)
+    pub(crate) fn strike_try(&mut self)
         ensures { λ _. ⌜ model (now (self .exit)) ≡ struck-as (model (now (self .entry))) ⌝ }
     {
         if let Some(mark) = self.tries.pop() {
@@ -141,7 +141,7 @@ fn after_strike(state: State, found: State) -> State
 
 impl Tables {
     /// Settles with an allowance of `n` narrowings.
-    pub fn settle<B: Book>(&mut self, book: &B, n: u32) -> Settled
+    pub(crate) fn settle<B: Book>(&mut self, book: &B, n: u32) -> Settled
         ensures { λ r. ⌜ (Sound-core (meaning top arity counts (related (now (book .entry)))) (core (now (self .entry)))
             → Settles (meaning top arity counts (related (now (book .entry)))) (model (now (self .entry))) n (model (now (self .exit))) (answered r)) ⌝ }
     {

@@ -51,7 +51,7 @@ fn repeated(arity: u32, rule: Rule) -> bool
 
 impl Tables {
     /// How many lines there are.
-    pub fn line_count(&self) -> u32
+    pub(crate) fn line_count(&self) -> u32
         ensures len { λ r. ⌜ r ≡ vec-len (now (self .entry) .lines) ⌝ }
         ensures windows { λ r. ⌜ r ≡ length (model (now (self .entry)) .core .windows) ⌝ }
     {
@@ -59,14 +59,14 @@ impl Tables {
     }
 
     /// How many rules there are.
-    pub fn rule_count(&self) -> u32
+    pub(crate) fn rule_count(&self) -> u32
         ensures { λ r. ⌜ r ≡ vec-len (now (self .entry) .rules) ⌝ }
     {
         self.rules.len() as u32
     }
 
     /// How many tries are open.
-    pub fn try_count(&self) -> u32
+    pub(crate) fn try_count(&self) -> u32
         ensures len { λ r. ⌜ r ≡ vec-len (now (self .entry) .tries) ⌝ }
         ensures saved { λ r. ⌜ r ≡ length (model (now (self .entry)) .saved) ⌝ }
     {
@@ -74,7 +74,7 @@ impl Tables {
     }
 
     /// The window of a line, if there is such a line.
-    pub fn read_window(&self, k: u32) -> Result<Window, Refusal>
+    pub(crate) fn read_window(&self, k: u32) -> Result<Window, Refusal>
         ensures { λ r. ⌜ Read (model (now (self .entry))) k r ⌝ }
     {
         if no_line(self.line_count(), k) {
@@ -85,7 +85,7 @@ impl Tables {
     }
 
     /// The cases of a line, up to the code `top`.
-    pub fn check_line(&self, top: u32, lo: u32, hi: u32) -> Result<(), Refusal>
+    pub(crate) fn check_line(&self, top: u32, lo: u32, hi: u32) -> Result<(), Refusal>
         ensures { λ r. ⌜ fault r ≡ first (line-cases top (vec-len (now (self .entry) .lines)) lo hi) ⌝ }
     {
         first_fault(
@@ -103,7 +103,7 @@ impl Tables {
     }
 
     /// The cases of a rule of `arity` lines.
-    pub fn check_rule(&self, arity: u32, rule: Rule) -> Result<(), Refusal>
+    pub(crate) fn check_rule(&self, arity: u32, rule: Rule) -> Result<(), Refusal>
         requires { ⌜ (arity ≡ 0) ⊎ ((arity ≡ 2) ⊎ (arity ≡ 3)) ⌝ }
         ensures { λ r. ⌜ fault r ≡ first (rule-cases arity (vec-len (now (self .entry) .lines)) (vec-len (now (self .entry) .rules)) rule) ⌝ }
     {
@@ -130,7 +130,7 @@ impl Tables {
     }
 
     /// The cases of a pinch, up to the code `top`.
-    pub fn check_pinch(&self, top: u32, k: u32, lo: u32, hi: u32) -> Result<(), Refusal>
+    pub(crate) fn check_pinch(&self, top: u32, k: u32, lo: u32, hi: u32) -> Result<(), Refusal>
         ensures { λ r. ⌜ fault r ≡ first (pinch-cases top (vec-len (now (self .entry) .lines)) (window (map span (vec-items (now (self .entry) .lines))) k) k lo hi) ⌝ }
     {
         let present = window_at(self.lines.as_slice(), k);
@@ -153,7 +153,7 @@ impl Tables {
     }
 
     /// The case of an open.
-    pub fn check_open(&self) -> Result<(), Refusal>
+    pub(crate) fn check_open(&self) -> Result<(), Refusal>
         ensures { λ r. ⌜ fault r ≡ first (open-cases (vec-len (now (self .entry) .tries))) ⌝ }
     {
         first_fault(
@@ -165,7 +165,7 @@ impl Tables {
     }
 
     /// The case of a keep or a strike, on the sheet of the number `id`.
-    pub fn check_ticket(&self, id: u32, number: u32, depth: u32) -> Result<(), Refusal>
+    pub(crate) fn check_ticket(&self, id: u32, number: u32, depth: u32) -> Result<(), Refusal>
         ensures { λ r. ⌜ fault r ≡ first (ticket-cases id (vec-len (now (self .entry) .tries)) number depth) ⌝ }
     {
         first_fault(

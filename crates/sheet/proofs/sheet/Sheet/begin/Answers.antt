@@ -12,7 +12,7 @@ use Rattle.law.specs.declared.calls.Answer.{Answer}
 use Rattle.law.specs.declared.calls.Call.{Call}
 use Rattle.law.specs.declared.calls.State.{State}
 use Rattle.law.specs.Sheets.{Core, Model, between, cut, window}
-use Rattle.law.specs.Steps.{with-core}
+use Rattle.law.specs.Steps.{does, refused, with-core}
 use Rattle.law.specs.Table.{first, is-barren, line-cases, open-cases, pinch-cases, rule-cases, ticket-cases}
 use Rattle.law.proofs.Verdicts.{line-taken, pinch-taken}
 use Rattle.sheet.specs.declared.state.Event.{Event}
@@ -32,6 +32,7 @@ returns-in-Break-next-state g c =
     let p = err-from-errBy (c .from-residual .result) (c .from-residual .ensures .1) in
     rw (p .1, p .2) (record {
       called = turned-away m id (model t) Call.Open _ (open-barred t m id _ (sym (c .in-Break-next-state .ensures tt)));
+      step = refused _ (open-barred t m id _ (sym (c .in-Break-next-state .ensures tt))) refl refl;
       number = refl;
       book = refl;
       innermost = tt;
@@ -47,6 +48,7 @@ returns-in-Break-check-open g c =
     let p = err-from-errBy (c .from-residual-in-Break-check-open .result) (c .from-residual-in-Break-check-open .ensures .1) in
     rw (p .1, p .2) (record {
       called = turned-away m id (model t) Call.Open _ (open-cleared t m id _ (sym (c .in-Continue-next-state .ensures tt)) ∙ sym (c .in-Break-check-open .ensures tt));
+      step = refused _ (open-cleared t m id _ (sym (c .in-Continue-next-state .ensures tt)) ∙ sym (c .in-Break-check-open .ensures tt)) refl refl;
       number = refl;
       book = refl;
       innermost = tt;
@@ -63,6 +65,7 @@ returns g c =
     let depth : c .try-count .result ≡ length (model t .saved) + 1 = c .try-count .ensures .len ∙ opened-depth (c .begin-try .last .self) t (c .begin-try .ensures) in
     record {
       called = taken m id (model t) Call.Open (model (c .begin-try .last .self)) (Answer.Opened id (c .try-count .result)) free (c .begin-try .ensures, ap (Answer.Opened id) depth);
+      step = does free (c .begin-try .ensures, ap (Answer.Opened id) depth);
       number = refl;
       book = refl;
       innermost = record { own = refl; deepest = c .try-count .ensures .saved; real = omega (arith, depth) };

@@ -4,6 +4,7 @@ use Rattle.std.proofs.shelf.Results.{err-from-errBy}
 use Rattle.windows.specs.Meanings.{Meaning}
 use Rattle.law.specs.declared.calls.Answer.{Answer}
 use Rattle.law.specs.declared.calls.Call.{Call}
+use Rattle.law.specs.Steps.{does, refused}
 use Rattle.sheet.specs.Rounds.{meaning}
 use Rattle.sheet.specs.Views.{model}
 use Rattle.sheet.proofs.Verdicts.{keep-verdict, turned-away, taken, unbarred}
@@ -21,6 +22,7 @@ returns-in-Break-check-keep g c =
     let p = err-from-errBy (c .from-residual .result) (c .from-residual .ensures .1) in
     rw (p .1, p .2) (record {
       called = turned-away m id (model t) (Call.Keep (c .args .number) (c .args .depth)) _ (sym (c .in-Break-check-keep .ensures tt));
+      step = refused _ (sym (c .in-Break-check-keep .ensures tt)) refl refl;
       number = refl;
       book = refl;
       accepts = λ inner alive. absurd (never-turned t id (c .args .number) (c .args .depth) _ inner (c .in-Break-check-keep .ensures tt ∙ keep-verdict t m id (c .args .number) (c .args .depth) ∙ unbarred (t .state) (ticket-cases id (vec-len (t .tries)) (c .args .number) (c .args .depth)) alive));
@@ -34,6 +36,7 @@ returns g c =
     let t = c .args .self .now .tables in
     record {
       called = taken m id (model t) (Call.Keep (c .args .number) (c .args .depth)) (model (c .keep-try .last .self)) Answer.Kept (sym (c .in-Continue-check-keep .ensures tt)) (c .keep-try .ensures, refl);
+      step = does (sym (c .in-Continue-check-keep .ensures tt)) (c .keep-try .ensures, refl);
       number = refl;
       book = refl;
       accepts = λ inner alive. refl;

@@ -12,7 +12,7 @@ use Rattle.law.specs.declared.calls.Answer.{Answer}
 use Rattle.law.specs.declared.calls.Call.{Call}
 use Rattle.law.specs.declared.calls.State.{State}
 use Rattle.law.specs.Sheets.{Core, Model, between, cut, window}
-use Rattle.law.specs.Steps.{with-core}
+use Rattle.law.specs.Steps.{does, refused, with-core}
 use Rattle.law.specs.Table.{first, line-cases, open-cases, pinch-cases, rule-cases, ticket-cases}
 use Rattle.law.proofs.Verdicts.{line-taken, pinch-taken}
 use Rattle.sheet.specs.declared.state.Event.{Event}
@@ -32,6 +32,7 @@ returns-in-Break-next g c =
     let p = err-from-errBy (c .from-residual .result) (c .from-residual .ensures .1) in
     rw (p .1, p .2) (record {
       called = turned-away m id (model t) (Call.Line (c .args .lo) (c .args .hi)) _ (line-barred t m id (c .args .lo) (c .args .hi) _ (sym (c .in-Break-next .ensures tt)));
+      step = refused _ (line-barred t m id (c .args .lo) (c .args .hi) _ (sym (c .in-Break-next .ensures tt))) refl refl;
       number = refl;
       book = refl;
     })
@@ -45,6 +46,7 @@ returns-in-Break-check-line g c =
     let p = err-from-errBy (c .from-residual-in-Break-check-line .result) (c .from-residual-in-Break-check-line .ensures .1) in
     rw (p .1, p .2) (record {
       called = turned-away m id (model t) (Call.Line (c .args .lo) (c .args .hi)) _ (line-cleared t m id (c .args .lo) (c .args .hi) _ (sym (c .in-Continue-next .ensures tt)) ∙ ap (λ (top : ℕ). first (line-cases top (vec-len (t .lines)) (c .args .lo) (c .args .hi))) (sym (c .top-code .ensures)) ∙ sym (c .in-Break-check-line .ensures tt));
+      step = refused _ (line-cleared t m id (c .args .lo) (c .args .hi) _ (sym (c .in-Continue-next .ensures tt)) ∙ ap (λ (top : ℕ). first (line-cases top (vec-len (t .lines)) (c .args .lo) (c .args .hi))) (sym (c .top-code .ensures)) ∙ sym (c .in-Break-check-line .ensures tt)) refl refl;
       number = refl;
       book = refl;
     })
@@ -63,6 +65,7 @@ returns g c =
     let number : c .line-count .result ≡ length (model t .core .windows) + 1 = c .line-count .ensures .len ∙ grown (c .add-line .last .self) t State.Unsettled (between (c .args .lo) (c .args .hi)) after in
     record {
       called = taken m id (model t) (Call.Line (c .args .lo) (c .args .hi)) (model (c .add-line .last .self)) (Answer.Numbered (c .line-count .result)) free (after, ap Answer.Numbered number);
+      step = does free (after, ap Answer.Numbered number);
       number = refl;
       book = refl;
     }

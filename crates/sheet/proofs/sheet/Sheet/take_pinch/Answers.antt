@@ -13,7 +13,7 @@ use Rattle.law.specs.declared.calls.Answer.{Answer}
 use Rattle.law.specs.declared.calls.Call.{Call}
 use Rattle.law.specs.declared.calls.State.{State}
 use Rattle.law.specs.Sheets.{Core, Model, between, cut, window}
-use Rattle.law.specs.Steps.{with-core}
+use Rattle.law.specs.Steps.{does, refused, with-core}
 use Rattle.law.specs.Table.{first, line-cases, open-cases, pinch-cases, rule-cases, ticket-cases}
 use Rattle.law.proofs.Verdicts.{line-taken, pinch-taken}
 use Rattle.sheet.specs.declared.state.Event.{Event}
@@ -33,6 +33,7 @@ returns-in-Break-next g c =
     let p = err-from-errBy (c .from-residual .result) (c .from-residual .ensures .1) in
     rw (p .1, p .2) (record {
       called = turned-away m id (model t) (Call.Pinch (c .args .line) (c .args .lo) (c .args .hi)) _ (pinch-barred t m id (c .args .line) (c .args .lo) (c .args .hi) _ (sym (c .in-Break-next .ensures tt)));
+      step = refused _ (pinch-barred t m id (c .args .line) (c .args .lo) (c .args .hi) _ (sym (c .in-Break-next .ensures tt))) refl refl;
       number = refl;
       book = refl;
     })
@@ -46,6 +47,7 @@ returns-in-Break-check-pinch g c =
     let p = err-from-errBy (c .from-residual-in-Break-check-pinch .result) (c .from-residual-in-Break-check-pinch .ensures .1) in
     rw (p .1, p .2) (record {
       called = turned-away m id (model t) (Call.Pinch (c .args .line) (c .args .lo) (c .args .hi)) _ (pinch-cleared t m id (c .args .line) (c .args .lo) (c .args .hi) _ (sym (c .in-Continue-next .ensures tt)) ∙ ap (λ (top : ℕ). first (pinch-cases top (vec-len (t .lines)) (window (map span (vec-items (t .lines))) (c .args .line)) (c .args .line) (c .args .lo) (c .args .hi))) (sym (c .top-code .ensures)) ∙ sym (c .in-Break-check-pinch .ensures tt));
+      step = refused _ (pinch-cleared t m id (c .args .line) (c .args .lo) (c .args .hi) _ (sym (c .in-Continue-next .ensures tt)) ∙ ap (λ (top : ℕ). first (pinch-cases top (vec-len (t .lines)) (window (map span (vec-items (t .lines))) (c .args .line)) (c .args .line) (c .args .lo) (c .args .hi))) (sym (c .top-code .ensures)) ∙ sym (c .in-Break-check-pinch .ensures tt)) refl refl;
       number = refl;
       book = refl;
     })
@@ -63,6 +65,7 @@ returns g c =
     let after = c .set-window .ensures ∙ ap₂ (λ (s : State) (w : Span). with-core (model t) (pinched-as s (core t) (c .args .line) w)) next made in
     record {
       called = taken m id (model t) (Call.Pinch (c .args .line) (c .args .lo) (c .args .hi)) (model (c .set-window .last .self)) Answer.Pinched free (after, refl);
+      step = does free (after, refl);
       number = refl;
       book = refl;
     }

@@ -12,7 +12,7 @@ use Rattle.law.specs.declared.calls.Answer.{Answer}
 use Rattle.law.specs.declared.calls.Call.{Call}
 use Rattle.law.specs.declared.calls.State.{State}
 use Rattle.law.specs.Sheets.{Core, Model, between, cut, window}
-use Rattle.law.specs.Steps.{with-core}
+use Rattle.law.specs.Steps.{does, refused, with-core}
 use Rattle.law.specs.Table.{first, line-cases, open-cases, pinch-cases, rule-cases, ticket-cases}
 use Rattle.law.proofs.Verdicts.{line-taken, pinch-taken}
 use Rattle.sheet.specs.declared.state.Event.{Event}
@@ -32,6 +32,7 @@ returns-in-Break-next g c =
     let p = err-from-errBy (c .from-residual .result) (c .from-residual .ensures .1) in
     rw (p .1, p .2) (record {
       called = turned-away m id (model t) (Call.Rule (c .args .rule)) _ (rule-barred t m id (c .args .rule) _ (sym (c .in-Break-next .ensures tt)));
+      step = refused _ (rule-barred t m id (c .args .rule) _ (sym (c .in-Break-next .ensures tt))) refl refl;
       number = refl;
       book = refl;
     })
@@ -45,6 +46,7 @@ returns-in-Break-check-rule g c =
     let p = err-from-errBy (c .from-residual-in-Break-check-rule .result) (c .from-residual-in-Break-check-rule .ensures .1) in
     rw (p .1, p .2) (record {
       called = turned-away m id (model t) (Call.Rule (c .args .rule)) _ (rule-cleared t m id (c .args .rule) _ (sym (c .in-Continue-next .ensures tt)) ∙ ap (λ (n : ℕ). first (rule-cases n (vec-len (t .lines)) (vec-len (t .rules)) (c .args .rule))) (sym (c .lines .ensures)) ∙ sym (c .in-Break-check-rule .ensures tt));
+      step = refused _ (rule-cleared t m id (c .args .rule) _ (sym (c .in-Continue-next .ensures tt)) ∙ ap (λ (n : ℕ). first (rule-cases n (vec-len (t .lines)) (vec-len (t .rules)) (c .args .rule))) (sym (c .lines .ensures)) ∙ sym (c .in-Break-check-rule .ensures tt)) refl refl;
       number = refl;
       book = refl;
     })
@@ -61,6 +63,7 @@ returns g c =
     let number : c .rule-count .result ≡ length (model t .core .rules) + 1 = c .rule-count .ensures ∙ ruled (c .add-rule .last .self) t State.Unsettled (c .args .rule) after in
     record {
       called = taken m id (model t) (Call.Rule (c .args .rule)) (model (c .add-rule .last .self)) (Answer.Numbered (c .rule-count .result)) free (after, ap Answer.Numbered number);
+      step = does free (after, ap Answer.Numbered number);
       number = refl;
       book = refl;
     }

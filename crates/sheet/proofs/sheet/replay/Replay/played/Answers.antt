@@ -42,5 +42,6 @@ loop-call-again g c =
 pub returns : need.returns
 returns g c =
     let all = take-all (c .loop-call .call-index) (c .args .calls .now) (c .loop-call-test .left) in
-    subst₂ (λ (calls : List Call) (b : g .B .Denot). Played (meaning (g .B·Book .top) (g .B·Book .arity) (g .B·Book .counts) (g .B·Book .related b)) (c .args .number) calls (vec-items (c .loop-call .answers)) (model (c .loop-call .sheet .tables)))
-    all (c .in-Continue-sheet .ensures tt .book) (c .loop-call .inv .2)
+    let played = subst₂ (λ (calls : List Call) (b : g .B .Denot). Played (meaning (g .B·Book .top) (g .B·Book .arity) (g .B·Book .counts) (g .B·Book .related b)) (c .args .number) calls (vec-items (c .loop-call .answers)) (model (c .loop-call .sheet .tables)))
+    all (c .in-Continue-sheet .ensures tt .book) (c .loop-call .inv .2) in
+    record { played = played; number = c .loop-call .inv .0; book = c .loop-call .inv .1 ∙ c .in-Continue-sheet .ensures tt .book }
