@@ -1,6 +1,7 @@
 //! The book: the interface between a sheet and the rules of one drive.
-ghost use Prim.Native.Nat.{ℕ, _≤_};
+ghost use Prim.Native.Nat.{ℕ, _<_, _≤_};
 ghost use mathlib.Core.List.{List, [], _∷_};
+ghost use mathlib.Core.Logic.{_⊎_};
 ghost use mathlib.Core.Path.{_≡_};
 ghost use Rattle.books.specs.Narrowings.{Answered};
 ghost use Rattle.windows.specs.Meanings.{Counts};
@@ -32,6 +33,9 @@ pub trait Book {
     ghost counts: { Counts arity };
 
     law small: { top ≤ 65535 };
+
+    /// The kinds are out of 2 to 5.
+    law within: { (k : ℕ) → (k < 2) ⊎ (5 < k) → arity k ≡ 0 };
 
     /// The top code.
     fn top_code() -> u32
