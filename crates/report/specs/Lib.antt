@@ -1,0 +1,5 @@
+pub mod Adding
+pub mod Report
+pub mod Traces
+pub mod Concluding
+pub mod Picks
