@@ -1,6 +1,7 @@
 #!/bin/sh
 # Proves and builds trace as a static library, links the console and the test of its buffers with it, runs the console on
-# every stored sheet of sheets/ and compares what it prints with the report beside the sheet. Needs gcc and Rattle's kit.
+# every stored sheet of sheets/ and compares what it prints with the report beside the sheet; the program cuetrace too, where
+# `rt check` or `rt ci` has built it. Needs gcc and Rattle's kit.
 # The last line is 'N passed, M failed'; the exit status is 0 where none failed.
 cd "$(dirname "$0")/.." || exit 1
 mkdir -p target/console
@@ -12,13 +13,16 @@ for program in console buffers; do
 done
 passed=0
 failed=0
-for sheet in sheets/*.sheet sheets/*/*.sheet; do
-    if target/console/console < "$sheet" > target/console/out && cmp -s target/console/out "${sheet%.sheet}.report"; then
-        passed=$((passed + 1))
-    else
-        failed=$((failed + 1))
-        echo "FAILED: $sheet"
-    fi
+for program in target/console/console target/bin/cuetrace; do
+    [ -x "$program" ] || continue
+    for sheet in sheets/*.sheet sheets/*/*.sheet; do
+        if "$program" < "$sheet" > target/console/out && cmp -s target/console/out "${sheet%.sheet}.report"; then
+            passed=$((passed + 1))
+        else
+            failed=$((failed + 1))
+            echo "FAILED: $program on $sheet"
+        fi
+    done
 done
 if target/console/buffers; then
     passed=$((passed + 1))
