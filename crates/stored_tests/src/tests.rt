@@ -1,6 +1,9 @@
 //! Files of the counter drive, row by row; a row is a record.
 use books::counter::CounterBook;
 use books::counter::CounterBookBook;
+use law::calls::Call;
+use law::calls::Rule;
+use sheet::sheet::replay::Replay;
 use std::alloc::Global;
 use std::test::*;
 use stored::load::load;
@@ -251,6 +254,89 @@ fn stored_and_loaded(rt: LibcRuntime) -> Result<(), Fail> {
     check_eq(again.sheet.number(), 7)?;
     check_eq(again.sheet.lines(), 2)?;
     check_eq(again.sheet.rules(), 1)
+}
+
+/// Two lines, the first one given by its ends, that the rule of `rule` ties.
+fn two_lines(lo: u32, hi: u32) -> [Call; 3] {
+    let tie = Call::Rule(Rule {
+        kind: 5,
+        a: 1,
+        b: 2,
+        c: 0,
+    });
+    [Call::Line { lo, hi }, Call::Line { lo: 3, hi: 4 }, tie]
+}
+
+/// A store of the sheet that the calls lead to is refused by this number, however long the buffer, which is left as it is.
+fn not_stored(heap: Global, calls: &[Call], number: u8) -> Result<(), Fail> {
+    let played = Replay::of(heap, 7, CounterBook, calls)?;
+    let mut out = [9u8; 40];
+    let fault = store(played.sheet(), &mut out).err().ok_or("stored")?;
+    check_eq(fault.number(), number)?;
+    for byte in &out {
+        check_eq(*byte, 9)?;
+    }
+    let fault = store(played.sheet(), &mut []).err().ok_or("stored")?;
+    check_eq(fault.number(), number)
+}
+
+#[test]
+fn the_order_of_a_stores_refusals(rt: LibcRuntime) -> Result<(), Fail> {
+    let heap = rt.alloc();
+    let [a, b, tie] = two_lines(9, 9);
+    not_stored(heap, &[a, b, tie, Call::Open], 15)?;
+    not_stored(heap, &[a, b, tie, Call::Open, Call::Settle(10)], 15)?;
+    not_stored(heap, &[a, b, tie, Call::Settle(10)], 7)
+}
+
+#[test]
+fn a_store_writes_the_windows_as_they_are_now(rt: LibcRuntime) -> Result<(), Fail> {
+    let heap = rt.alloc();
+    let [a, b, tie] = two_lines(0, 1000);
+    let pinch = Call::Pinch {
+        line: 1,
+        lo: 2,
+        hi: 800,
+    };
+    let played = Replay::of(heap, 7, CounterBook, &[a, b, tie, pinch, Call::Settle(10)])?;
+    let mut out = [9u8; 33];
+    check_eq(store(played.sheet(), &mut out).ok().ok_or("refused")?, 32)?;
+    let want = file(heap, &[head(1), [1, 2, 2, 0, 4, 0, 0, 0], line(3), rule(0)])?;
+    check(&out[..32] == want.as_slice())?;
+    check_eq(out[32], 9)
+}
+
+#[test]
+fn the_first_of_two_faults(rt: LibcRuntime) -> Result<(), Fail> {
+    let heap = rt.alloc();
+    // the length before the head
+    refused(heap, &[2, 9, 1], 10, 0)?;
+    // the head before the chain
+    refused(heap, &[1, 9, 1, 0, 0, 0, 0, 1], 11, 0)?;
+    // an earlier record before a later one, whichever lies first in the file
+    refused(
+        heap,
+        file(
+            heap,
+            &[head(2), [9, 0, 0, 0, 0, 0, 0, 0], [1, 1, 4, 0, 3, 0, 0, 0]],
+        )?.as_slice(),
+        1,
+        2,
+    )?;
+    // an unused byte before the call that the record stands for
+    refused(
+        heap,
+        file(heap, &[head(1), [1, 0, 4, 0, 3, 0, 0, 9]])?.as_slice(),
+        13,
+        1,
+    )?;
+    // a line that the rule names is missing, before two places that are the same
+    refused(
+        heap,
+        file(heap, &[head(1), [5, 0, 1, 1, 0, 0, 0, 0]])?.as_slice(),
+        2,
+        1,
+    )
 }
 
 #[test]
