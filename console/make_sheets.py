@@ -236,6 +236,7 @@ SHEETS = {
     "refused-no-line": sheet(1, 0, LINES, [(5, 1, 2, 1)]),
     "refused-twice": sheet(1, 0, LINES, [(5, 2, 2)]),
     "refused-full": head(1, 1) + line(1, 1, 9) + bytes(8 * 99),
+    "refused-full-of-rules": sheet(1, 0, [(3, 4), (3, 4)], [(5, 1, 2)] * 129),
 }
 
 
