@@ -6,7 +6,7 @@ ghost use Rattle.law.specs.Steps.{Reached};
 ghost use Rattle.sheet.specs.Rounds.{meaning};
 ghost use Rattle.sheet.specs.Views.{model};
 ghost use Rattle.std.specs.Vec.{made};
-ghost use Rattle.stored.specs.Stores.{Comes-back, Same-again, fault-of, stores};
+ghost use Rattle.stored.specs.Stores.{Comes-back, Same-again, buffer, fault-of, stores};
 use crate::fault::StoreFault;
 use crate::load::Loaded;
 use crate::load::load;
@@ -42,6 +42,7 @@ pub fn reload<B: Book + Copy + Drop>(
     ensures number { λ r. ⌜ made r (λ x. made x (λ l. l .sheet .number ≡ now (sheet .entry) .number)) ⌝ }
     ensures book { λ r. ⌜ made r (λ x. made x (λ l. l .sheet .book ≡ now (sheet .entry) .book)) ⌝ }
     ensures fault { λ r. ⌜ made r (λ x. fault-of x ≡ fault-of (stores (model (now (sheet .entry) .tables)) (length (now (out .entry))))) ⌝ }
+    ensures buffer { λ _. ⌜ now (out .exit) ≡ buffer drive (mode (now (sheet .entry) .book)) (model (now (sheet .entry) .tables)) (now (out .entry)) (stores (model (now (sheet .entry) .tables)) (length (now (out .entry)))) ⌝ }
 {
     match store(sheet, out) {
         Err(why) => Ok(Err(why)),
