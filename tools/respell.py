@@ -13,7 +13,7 @@ import re
 import sys
 
 WORD = r"[^\s(){}\[\].,;:λ`]+"
-TOP = re.compile(r"^(?:abbrev pub|pub abbrev|abbrev|pub record|record|pub data|data|pub|)\s*(" + WORD + r")(?=[\s:({])")
+TOP = re.compile(r"^(?:(?:abbrev pub|pub abbrev|abbrev|pub record|record|pub data|data|pub) )?(" + WORD + r")(?=[\s:({])")
 FIELD = re.compile(r"^  +(?:pub )?(" + WORD + r")\s*:(?!:)")
 GOAL = re.compile(r":\s*(?:goal|given|need)\b")
 

@@ -4,7 +4,7 @@ use mathlib.Core.Bool.{Bool-set}
 use mathlib.Core.Logic.{∥∥₁_elim, ∥∥₁_map}
 use native.Mathlib.Nat.{ℕ_set}
 use Rattle.std.proofs.lemmas.List.{drop_at, get_or_append_left, get_or_push, length-drop, length_push, length-take-le, take-append-drop, take_at}
-use Rattle.std.proofs.lemmas.Bool.{cases_lt, eqb-false, eqb_true, lt-ltb, ltb_true, not-false}
+use Rattle.std.proofs.lemmas.Bool.{cases_lt, eqb-false, eqb-true, lt-ltb, ltb-true, not-false}
 use Rattle.std.specs.List.{insert, remove}
 use Rattle.windows.specs.Meanings.{Meaning}
 use Rattle.law.specs.declared.calls.Answer.{Answer}
@@ -92,7 +92,7 @@ more_in_step {m} {m'} {id} {id'} {s} {t} {hand} {hand'} {room} {room'} h em ei i
 pub room_in_step : {m : Meaning} {id : ℕ} {s t : Model} {hand : List Held} {room : ℕ} {number depth : ℕ} (n : ℕ) →
     n ≡ length hand → InStep m id s hand room → Begun id s t number depth → n < room
 room_in_step {m} {id} {s} {t} {hand} {room} n e i b =
-    ltb_true n room (∥∥₁_elim i (Bool-set (ltb n room) true) (λ (g : Agrees m id s hand room). lt-ltb n room (omega (arith, g.each, g.roomy, b.few))))
+    ltb-true n room (∥∥₁_elim i (Bool-set (ltb n room) true) (λ (g : Agrees m id s hand room). lt-ltb n room (omega (arith, g.each, g.roomy, b.few))))
 
 -- No case applies where the first that does is none.
 no_case : (b : Bool) (why : Refusal) (o : Option Refusal) → cond b (Some why) o ≡ None → (b ≡ false) × (o ≡ None)
@@ -115,8 +115,8 @@ right id tries number depth e =
     let b = no_either (not (eqb depth tries)) (eqb depth 0) a.1 in
     let z : depth ≡ 0 → ⊥ = eqb-false depth 0 b.1 in
     record {
-      own = eqb_true number id (not-false (eqb number id) a.0);
-      deepest = eqb_true depth tries (not-false (eqb depth tries) b.0);
+      own = eqb-true number id (not-false (eqb number id) a.0);
+      deepest = eqb-true depth tries (not-false (eqb depth tries) b.0);
       real = omega (arith, z);
     }
 

@@ -3,7 +3,7 @@
 use Rattle.std.proofs.Common.{◌≡◌, ℕ, zero, suc, ◌+◌, ◌-◌, ◌*◌, ◌/◌, ◌%◌, ◌^◌, ◌<◌, ◌≤◌, min, max, sym, ap, ◌∙◌, subst, inl, inr, mod-lt, mul-lt-mul_of_pos_right, mul-pos, pow-suc, div-add-mod', arith, pow_pos, pow_mono, pow-add}
 use lib.Bits.{bit_or}
 use lib.Count.{count_leading_zeros, leading_top}
-use Rattle.std.proofs.lemmas.Nat.{or_shr, or_mod, or_comm, div_below, le_div}
+use Rattle.std.proofs.lemmas.Nat.{or_shr, or_mod, or_comm, div_below, le-div}
 use Rattle.std.proofs.lemmas.Bool.{cases_lt}
 use Rattle.std.proofs.lemmas.Bool.Decides.{nat_tests}
 use Rattle.half.specs.Formats.{half, size, Exact}
@@ -75,7 +75,7 @@ module _ (digits shift len place : ℕ) (long : Length digits len) (at : place �
   kept_high : 35 < place + shift → 1024 ≤ digits * 2048 / 2 ^ place
   kept_high above =
       let same : place ≡ len = omega arith in
-      le_div 1024 (digits * 2048) (2 ^ place) (pow_pos place) (omega (arith, ap (λ x. 2 ^ x) same, pow_double len long.some, needed same))
+      le-div 1024 (digits * 2048) (2 ^ place) (pow_pos place) (omega (arith, ap (λ x. 2 ^ x) same, pow_double len long.some, needed same))
     where
       -- no digit above the highest is counted
       needed : place ≡ len → 2 ^ (len - 1) ≤ digits

@@ -5,7 +5,7 @@ use Rattle.std.proofs.Common.{zero-le, sym, ◌∙◌, subst, le_antisymm, le_re
 use Rattle.std.proofs.Math.Path.{ap}
 use Rattle.std.proofs.Math.Logic.{inl, inr}
 use native.Mathlib.Omega.{arith}
-use Rattle.std.proofs.lemmas.Bool.{cases_lt, cases_order, cond_both, leb-true, le-leb, ltb_true, ltb-false, eqb_true, eqb-false}
+use Rattle.std.proofs.lemmas.Bool.{cases_lt, cases_order, cond_both, leb-true, le-leb, ltb-true, ltb-false, eqb-true, eqb-false}
 use Rattle.std.proofs.lemmas.Bool.Decides.{nat_tests}
 use Rattle.half.specs.Formats.{Format, size, Exact}
 use Rattle.half.specs.Roundings.{value, apart, last_of, floor, nearer, above, rounded, RoundsTowardZero, RoundsToNearest, RoundsUp, Rounds}
@@ -68,7 +68,7 @@ module _ (F : Format) (e : Exact) (pos : 0 < e.scale) where
   pub above_is : (f : ℕ) → RoundsTowardZero F e f → RoundsUp F e (above F e f)
   above_is f is =
       cond_both (value F e f == e.parts) f (f + 1) (RoundsUp F e)
-      (λ t. let same = eqb_true _ _ t in record {
+      (λ t. let same = eqb-true _ _ t in record {
         a_code = omega (arith, is.a_code);
         not_below = λ _. omega arith;
         least = λ c _ le. elim (cases_lt c f) [ inl lt ↦ omega (arith, value_grows F e pos c f lt) | inr ge ↦ ge ];
@@ -147,9 +147,9 @@ module _ (F : Format) (e : Exact) (pos : 0 < e.scale) where
     pub nearer_is : RoundsToNearest F e (nearer F e f)
     nearer_is =
         cond_both (nat_lt (2 * e.parts) (value F e f + value F e (f + 1))) f _ (RoundsToNearest F e)
-        (λ t. near_low (ltb_true _ _ t))
+        (λ t. near_low (ltb-true _ _ t))
         (λ t. cond_both (nat_lt (value F e f + value F e (f + 1)) (2 * e.parts)) (f + 1) (f + f % 2) (RoundsToNearest F e)
-        (λ u. near_high (ltb_true _ _ u))
+        (λ u. near_high (ltb-true _ _ u))
         (λ u. near_even (omega (arith, ltb-false _ _ t, ltb-false _ _ u)) (f + f % 2) even_one (omega arith)))
       where
         -- f + f % 2 is one of the two

@@ -1,8 +1,8 @@
 -- The windows in force when one more line, rule or pinch is.
 --   pinches named   each pinch names a line that was there before it
 -- Assumes what each lemma states.
-use Rattle.std.proofs.Common.{◌≡◌, ℕ, suc, ◌+◌, ◌-◌, ◌<◌, ◌≤◌, eqb, List, [], ◌∷◌, ◌++◌, length, get_or, set, sym, refl, ap, ◌∙◌, ap₂, inl, inr, arith, length_append}
-use Rattle.std.proofs.lemmas.Bool.{eq-eqb, ne_eqb, cond-true, cond_false, cases_eq}
+use Rattle.std.proofs.Common.{◌≡◌, ℕ, suc, ◌+◌, ◌-◌, ◌<◌, ◌≤◌, eqb, List, [], ◌∷◌, ◌++◌, length, get_or, set, sym, refl, ap, ◌∙◌, ap₂, inl, inr, arith, length-append}
+use Rattle.std.proofs.lemmas.Bool.{eq-eqb, ne_eqb, cond-true, cond-false, cases_eq}
 use Rattle.windows.specs.Spans.{Span, nowhere}
 use Rattle.law.specs.declared.calls.Rule.{Rule}
 use Rattle.law.specs.declared.calls.Call.{Call}
@@ -25,12 +25,12 @@ cut_by_past : (cs : List Call) (k : ℕ) (w : Span) → PinchesNamed cs → leng
 unfolding cut_by lines_in
 cut_by_past [] k w p l = refl
 cut_by_past (Call.Line lo hi ∷ cs) k w p l =
-    let l' : length (lines_in cs) < k = omega (arith, length_append (lines_in cs) (between lo hi ∷ [])) in
+    let l' : length (lines_in cs) < k = omega (arith, length-append (lines_in cs) (between lo hi ∷ [])) in
     cut_by_past cs k w p l'
 cut_by_past (Call.Rule r ∷ cs) k w p l = cut_by_past cs k w p l
 cut_by_past (Call.Pinch j lo hi ∷ cs) k w p l =
     let j' : j ≤ length (lines_in cs) = p.0 in
-    cond_false (eqb j k) (cut (cut_by cs k w) lo hi) (cut_by cs k w) (ne_eqb j k (λ e. omega arith)) ∙ cut_by_past cs k w p.1 l
+    cond-false (eqb j k) (cut (cut_by cs k w) lo hi) (cut_by cs k w) (ne_eqb j k (λ e. omega arith)) ∙ cut_by_past cs k w p.1 l
 cut_by_past (Call.Settle a ∷ cs) k w p l = cut_by_past cs k w p l
 cut_by_past (Call.Open ∷ cs) k w p l = cut_by_past cs k w p l
 cut_by_past (Call.Keep number depth ∷ cs) k w p l = cut_by_past cs k w p l
@@ -72,7 +72,7 @@ all_cut_before :
 unfolding all_cut_by cut_by
 all_cut_before j lo hi cs k [] l = refl
 all_cut_before j lo hi cs k (w ∷ ws) l =
-    ap₂ ◌∷◌ (cond_false (eqb j k) (cut (cut_by cs k w) lo hi) (cut_by cs k w) (ne_eqb j k (λ e. omega arith)))
+    ap₂ ◌∷◌ (cond-false (eqb j k) (cut (cut_by cs k w) lo hi) (cut_by cs k w) (ne_eqb j k (λ e. omega arith)))
     (all_cut_before j lo hi cs (suc k) ws (omega arith))
 
 -- A pinch cuts the window of its line, and no other.
@@ -90,7 +90,7 @@ all_cut_pinch j lo hi cs k (w ∷ ws) l =
       | inr f ↦
           let m : suc k ≤ j = omega arith in
           let z : j - k ≡ suc (j - suc k) = omega arith in
-          ap₂ ◌∷◌ (cond_false (eqb j k) (cut (cut_by cs k w) lo hi) (cut_by cs k w) (ne_eqb j k f)) (all_cut_pinch j lo hi cs (suc k) ws m)
+          ap₂ ◌∷◌ (cond-false (eqb j k) (cut (cut_by cs k w) lo hi) (cut_by cs k w) (ne_eqb j k f)) (all_cut_pinch j lo hi cs (suc k) ws m)
           ∙ sym (ap (λ i. set (cut_by cs k w ∷ all_cut_by cs (suc k) ws) i (cut (get_or (cut_by cs k w ∷ all_cut_by cs (suc k) ws) i nowhere) lo hi)) z)
     ]
 

@@ -1,7 +1,7 @@
 -- What is in force after one more call.
 -- Assumes nothing.
 use Rattle.std.proofs.Common.{◌≡◌, ℕ, ◌<◌, ◌≤◌, Bool, true, false, cond, not, ◌&&◌, ◌||◌, List, [], ◌∷◌, length, sym, refl, ap, ◌∙◌, subst, ap₂, inl, arith, length-drop}
-use Rattle.std.proofs.lemmas.Bool.{ne_eqb, cond-true, cond_false, not_from_false, and_from}
+use Rattle.std.proofs.lemmas.Bool.{ne_eqb, cond-true, cond-false, not_from_false, and_from}
 use Rattle.windows.specs.Spans.{Every}
 use Rattle.law.specs.declared.calls.Call.{Call}
 use Rattle.law.specs.Histories.{Entry, History, accepted, earliest}
@@ -30,7 +30,7 @@ lasting_same gone gone' (e ∷ h) a =
 -- A refused call opens, closes and strikes nothing.
 pub tries_refused : (e : Entry) (h : History) → accepted e.answer ≡ false → tries (e ∷ h) ≡ tries h
 unfolding tries
-tries_refused e h p = cond_false (accepted e.answer) (tried e.call (length h) (tries h)) (tries h) p
+tries_refused e h p = cond-false (accepted e.answer) (tried e.call (length h) (tries h)) (tries h) p
 
 -- The open tries after an accepted call.
 pub tries_accepted : (e : Entry) (h : History) → accepted e.answer ≡ true → tries (e ∷ h) ≡ tried e.call (length h) (tries h)
@@ -40,7 +40,7 @@ tries_accepted e h p = cond-true (accepted e.answer) (tried e.call (length h) (t
 -- A refused call strikes nothing.
 struck_refused : (e : Entry) (h : History) → accepted e.answer ≡ false → struck (e ∷ h) ≡ struck h
 unfolding struck
-struck_refused e h p = cond_false (accepted e.answer) (gone_by e.call (tries h) (struck h)) (struck h) p
+struck_refused e h p = cond-false (accepted e.answer) (gone_by e.call (tries h) (struck h)) (struck h) p
 
 -- The struck tries after an accepted call.
 struck_accepted : (e : Entry) (h : History) → accepted e.answer ≡ true → struck (e ∷ h) ≡ gone_by e.call (tries h) (struck h)
@@ -50,7 +50,7 @@ struck_accepted e h p = cond-true (accepted e.answer) (gone_by e.call (tries h) 
 -- A call that does not last is passed over.
 lasting_unless : (gone : List ℕ) (e : Entry) (h : History) → lasts gone e h ≡ false → lasting gone (e ∷ h) ≡ lasting gone h
 unfolding lasting
-lasting_unless gone e h p = cond_false (lasts gone e h) (e.call ∷ lasting gone h) (lasting gone h) p
+lasting_unless gone e h p = cond-false (lasts gone e h) (e.call ∷ lasting gone h) (lasting gone h) p
 
 -- A refused call changes nothing in force.
 pub force_refused : (e : Entry) (h : History) → accepted e.answer ≡ false → InForce (e ∷ h) ≡ InForce h

@@ -1,6 +1,6 @@
 -- The law of the sheet, from what every sheet reached keeps.
 -- Assumes nothing.
-use Rattle.std.proofs.Common.{◌≡◌, ℕ, zero, suc, ◌+◌, ◌-◌, Bool, true, false, List, [], ◌∷◌, ◌++◌, length, drop, sym, refl, ap, subst, arith, length_append}
+use Rattle.std.proofs.Common.{◌≡◌, ℕ, zero, suc, ◌+◌, ◌-◌, Bool, true, false, List, [], ◌∷◌, ◌++◌, length, drop, sym, refl, ap, subst, arith, length-append}
 use Rattle.std.proofs.lemmas.Bool.{both_ways}
 use Rattle.windows.specs.Meanings.{Meaning}
 use Rattle.windows.specs.Spans.{Every}
@@ -202,7 +202,7 @@ played_more m id calls answers s t call answer p q =
     subst (λ (h : History). Reached m id h t) (sym e) (q.reached (history calls answers) p.reached) in
     let n : length answers ≡ length calls = p.answered in
     record {
-      answered = simp length_append (omega arith);
+      answered = simp length-append (omega arith);
       reached = r;
       law = lawful m id (history (calls ++ (call ∷ [])) (answers ++ (answer ∷ []))) t r;
       along = law_along m id (history (calls ++ (call ∷ [])) (answers ++ (answer ∷ []))) t r;

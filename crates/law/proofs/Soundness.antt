@@ -1,6 +1,6 @@
 -- Every call leaves a sound sheet sound.
 -- Assumes what each lemma states.
-use Rattle.std.proofs.Common.{◌≡◌, ℕ, ◌+◌, ◌-◌, ◌<◌, ◌≤◌, List, [], ◌∷◌, ◌++◌, length, get_or, drop, set, None, sym, subst, arith, length_append, length-drop, length_set}
+use Rattle.std.proofs.Common.{◌≡◌, ℕ, ◌+◌, ◌-◌, ◌<◌, ◌≤◌, List, [], ◌∷◌, ◌++◌, length, get_or, drop, set, None, sym, subst, arith, length-append, length-drop, length-set}
 use Rattle.windows.specs.Spans.{Span, Inside, nowhere, Every, Ordered, Within}
 use Rattle.windows.specs.Meanings.{Meaning}
 use Rattle.windows.proofs.Spans.{within_refl, within_length, every_at, every_map, every_append, every_set}
@@ -34,7 +34,7 @@ sound_line m s lo hi f t =
     let w = between lo hi in
     let ws = c.windows in
     let n = length (ws ++ (w ∷ [])) in
-    let size : n ≡ length ws + 1 = length_append ws (w ∷ []) in
+    let size : n ≡ length ws + 1 = length-append ws (w ∷ []) in
     record {
       windows_fit = every_append (Fits m) ws (w ∷ []) f.windows_fit (record { ordered = t.ordered; up_to_top = t.up_to_top }, tt);
       rules_fit = every_map (FitRule m (length ws)) (FitRule m n) (fit_rule_more m (length ws) n (omega arith)) c.rules f.rules_fit;
@@ -46,7 +46,7 @@ sound_line m s lo hi f t =
 sound_rule : (m : Meaning) (s : Model) (r : Rule) → SoundCore m s.core → RuleTaken m s r → SoundCore m (ruled s.core r)
 sound_rule m s r f t =
     let c = s.core in
-    let size : length (c.rules ++ (r ∷ [])) ≡ length c.rules + 1 = length_append c.rules (r ∷ []) in
+    let size : length (c.rules ++ (r ∷ [])) ≡ length c.rules + 1 = length-append c.rules (r ∷ []) in
     record {
       windows_fit = f.windows_fit;
       rules_fit = every_append (FitRule m (length c.windows)) c.rules (r ∷ []) f.rules_fit (t.fits, tt);
@@ -63,7 +63,7 @@ sound_pinch m s k lo hi f t =
     let there : IsLine (length ws) k = t.there in
     let i : k - 1 < length ws = omega arith in
     let fit : Fits m w = every_at (Fits m) ws (k - 1) nowhere f.windows_fit i in
-    let size : length (set ws (k - 1) (cut w lo hi)) ≡ length ws = length_set ws (k - 1) (cut w lo hi) in
+    let size : length (set ws (k - 1) (cut w lo hi)) ≡ length ws = length-set ws (k - 1) (cut w lo hi) in
     record {
       windows_fit = every_set (Fits m) ws (k - 1) (cut w lo hi) f.windows_fit (record { ordered = t.leaves; up_to_top = omega arith });
       rules_fit = subst (λ (n : ℕ). Every (FitRule m n) c.rules) (sym size) f.rules_fit;

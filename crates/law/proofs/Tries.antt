@@ -4,7 +4,7 @@
 --   apart    no open try has been struck
 -- Assumes nothing.
 use Rattle.std.proofs.Common.{◌≡◌, ℕ, suc, ◌-◌, ◌<◌, ◌≤◌, Bool, true, false, cond, not, ◌&&◌, ◌||◌, eqb, ◌⊎◌, List, [], ◌∷◌, length, drop, sym, refl, ap, ◌∙◌, subst, inl, inr, arith}
-use Rattle.std.proofs.lemmas.Bool.{eq-eqb, ne_eqb, cond_false, or_left, or_right, or_from}
+use Rattle.std.proofs.lemmas.Bool.{eq-eqb, ne_eqb, cond-false, or_left, or_right, or_from}
 use Rattle.windows.specs.Spans.{Every}
 use Rattle.windows.proofs.Spans.{every_map}
 use Rattle.law.specs.declared.calls.Call.{Call}
@@ -181,7 +181,7 @@ earliest_all h =
 -- A call that does not last is passed over.
 lasting_skip : (gone : List ℕ) (e : Entry) (h : History) → lasts gone e h ≡ false → lasting gone (e ∷ h) ≡ lasting gone h
 unfolding lasting
-lasting_skip gone e h p = cond_false (lasts gone e h) (e.call ∷ lasting gone h) (lasting gone h) p
+lasting_skip gone e h p = cond-false (lasts gone e h) (e.call ∷ lasting gone h) (lasting gone h) p
 
 -- What was not accepted, or is no line, rule or pinch, does not last.
 lasts_unless : (x y z : Bool) → (x && y) ≡ false → (x && (y && not z)) ≡ false

@@ -1,7 +1,7 @@
 -- What an accepted call tells: none of its cases applied. And: a call does one thing.
 -- Assumes nothing.
 use Rattle.std.proofs.Common.{◌≡◌, ℕ, ◌<◌, ◌≤◌, Bool, true, false, cond, not, ◌&&◌, ◌||◌, eqb, ltb, leb, List, [], ◌∷◌, length, Some, None, Option, sym, refl, ap, ◌∙◌, arith}
-use Rattle.std.proofs.lemmas.Bool.{or_parts, ltb-false, leb_false, eqb_true, eqb-false, eq-eqb, not-false}
+use Rattle.std.proofs.lemmas.Bool.{or_parts, ltb-false, leb-false, eqb-true, eqb-false, eq-eqb, not-false}
 use Rattle.windows.specs.Spans.{Span, Every}
 use Rattle.windows.specs.Meanings.{Meaning}
 use Rattle.windows.proofs.Spans.{every_map}
@@ -49,7 +49,7 @@ is_line n k p =
 -- A rule of two lines names no third.
 no_third_named : (n c : ℕ) → (eqb n 2 && not (eqb c 0)) ≡ false → n ≡ 2 → c ≡ 0
 no_third_named n c p e =
-    eqb_true c 0 (not-false (eqb c 0) (ap (λ b. b && not (eqb c 0)) (sym (eq-eqb n 2 e)) ∙ p))
+    eqb-true c 0 (not-false (eqb c 0) (ap (λ b. b && not (eqb c 0)) (sym (eq-eqb n 2 e)) ∙ p))
 
 -- An accepted line.
 pub record LineTaken (m : Meaning) (s : Model) (lo hi : ℕ) : Type 0 where
@@ -65,7 +65,7 @@ line_taken m id s lo hi p =
     let b = first_none Ends (bad_ends m.top lo hi) (check Full (leb most_lines (length s.core.windows)) ∷ []) a.1 in
     let c = first_none Full (leb most_lines (length s.core.windows)) [] b.1 in
     let e = good_ends m.top lo hi b.0 in
-    record { ordered = e.0; up_to_top = e.1; room = leb_false most_lines (length s.core.windows) c.0 }
+    record { ordered = e.0; up_to_top = e.1; room = leb-false most_lines (length s.core.windows) c.0 }
 
 -- An accepted rule.
 pub record RuleTaken (m : Meaning) (s : Model) (r : Rule) : Type 0 where
@@ -93,7 +93,7 @@ rule_taken m id s r p =
         different = d.0;
         no_third = no_third_named (m.arity r.kind) r.c q.1;
       };
-      room = leb_false most_rules (length s.core.rules) e.0;
+      room = leb-false most_rules (length s.core.rules) e.0;
     }
 
 -- An accepted pinch.
@@ -119,14 +119,14 @@ unfolding verdict checks
 open_taken m id s p =
     let a = first_none IsBarren (is_barren s.core.state) (check TooManyTries (leb most_tries (length s.saved)) ∷ []) p in
     let b = first_none TooManyTries (leb most_tries (length s.saved)) [] a.1 in
-    leb_false most_tries (length s.saved) b.0
+    leb-false most_tries (length s.saved) b.0
 
 -- A right ticket: a try is open.
 right_ticket : (id n number depth : ℕ) → wrong_ticket id n number depth ≡ false → 0 < n
 right_ticket id n number depth p =
     let a = or_parts (not (eqb number id)) (not (eqb depth n) || eqb depth 0) p in
     let b = or_parts (not (eqb depth n)) (eqb depth 0) a.1 in
-    let e : depth ≡ n = eqb_true depth n (not-false (eqb depth n) b.0) in
+    let e : depth ≡ n = eqb-true depth n (not-false (eqb depth n) b.0) in
     let f : (depth ≡ 0 → ⊥) = eqb-false depth 0 b.1 in
     omega arith
 

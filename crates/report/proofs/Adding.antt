@@ -1,8 +1,8 @@
 -- Texts written one after the other.
 use Rattle.std.proofs.Common.{◌≡◌, ℕ, ◌+◌, ◌-◌, ◌/◌, ◌%◌, ◌^◌, ◌<◌, ◌≤◌, List, [], ◌∷◌, ◌++◌, length, take, drop, set, decimal, sym, refl, ap, ◌∙◌, subst, add-one, arith}
 use borrow.Rule.Slice.PartMut.{put_mid}
-use Rattle.std.proofs.lemmas.List.{append_assoc, drop_at, drop-drop, length_append, length-take-le, set_split, take_all, take-append-drop, take_at}
-use Rattle.std.proofs.lemmas.Slice.{put_mid_paste}
+use Rattle.std.proofs.lemmas.List.{append_assoc, drop_at, drop-drop, length-append, length-take-le, set_split, take_all, take-append-drop, take_at}
+use Rattle.std.proofs.lemmas.Slice.{put_mid-paste}
 use Rattle.std.proofs.lemmas.Fmt.{decimal_digit, decimal_step}
 use Rattle.report.specs.declared.word.Word.{Word}
 use Rattle.report.specs.Adding.{Adds, Begins}
@@ -19,7 +19,7 @@ adds_byte old at b lt = record { ends = refl; bytes = rw add-one (set_split old 
 -- A text, and where it ends another: together they are the longer text.
 pub adds_then : {old mid new t u : List ℕ} {at m e : ℕ} → at ≤ length old → Adds old at t mid m → Adds mid m u new e → Adds old at (t ++ u) new e
 adds_then {old} {mid} {new} {t} {u} {at} {m} {e} within first second =
-    let front : length (take at old ++ t) ≡ m = length_append (take at old) t ∙ ap (λ (n : ℕ). n + length t) (length-take-le at old within) ∙ sym first.ends in
+    let front : length (take at old ++ t) ≡ m = length-append (take at old) t ∙ ap (λ (n : ℕ). n + length t) (length-take-le at old within) ∙ sym first.ends in
     let whole : mid ≡ (take at old ++ t) ++ drop m old = first.bytes ∙ sym (append_assoc (take at old) t (drop m old)) in
     let before : take m mid ≡ take at old ++ t = ap (take m) whole ∙ take_at (take at old ++ t) (drop m old) m front in
     let behind : drop m mid ≡ drop m old = ap (drop m) whole ∙ drop_at (take at old ++ t) (drop m old) m front in
@@ -27,7 +27,7 @@ adds_then {old} {mid} {new} {t} {u} {at} {m} {e} within first second =
     ap (λ (n : ℕ). drop n mid) second.ends ∙ sym (drop-drop (length u) m mid) ∙ ap (drop (length u)) behind ∙ drop-drop (length u) m old
     ∙ ap (λ (n : ℕ). drop n old) (sym second.ends) in
     record {
-      ends = omega (arith, first.ends, second.ends, length_append t u);
+      ends = omega (arith, first.ends, second.ends, length-append t u);
       bytes =
           second.bytes
           ∙ ap (λ (l : List ℕ). l ++ (u ++ drop e mid)) before
@@ -43,7 +43,7 @@ adds_part old text part at k same size =
     record {
       ends = refl;
       bytes =
-          put_mid_paste at k old part text (length text) same (sym size) refl
+          put_mid-paste at k old part text (length text) same (sym size) refl
           ∙ append_assoc (take at old) (take (length text) text) (drop (at + length text) old)
           ∙ ap (λ (l : List ℕ). take at old ++ (l ++ drop (at + length text) old)) (take_all (length text) text (omega arith));
     }
@@ -63,7 +63,7 @@ adds_digits {old} {mid} {new} {at} {m} {e} n ge fits within front last =
 
 -- A number of two digits or more has a digit more than its tenth.
 pub length_digits : (n : ℕ) → 10 ≤ n → n < 2 ^ 64 → length (decimal n) ≡ length (decimal (n / 10)) + 1
-length_digits n ge fits = ap length (decimal_step n ge fits) ∙ length_append (decimal (n / 10)) ((48 + n % 10) ∷ [])
+length_digits n ge fits = ap length (decimal_step n ge fits) ∙ length-append (decimal (n / 10)) ((48 + n % 10) ∷ [])
 
 -- The word of a number.
 pub adds_number : {old new : List ℕ} {at e : ℕ} (w : Word) (n : ℕ) → w ≡ Word.Number n → Adds old at (decimal n) new e → Adds old at (spelled w) new e

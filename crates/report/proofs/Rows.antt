@@ -2,7 +2,7 @@
 use Rattle.std.proofs.Common.{◌≡◌, ℕ, zero, suc, ◌+◌, ◌<◌, ◌≤◌, Bool, true, false, ◌&&◌, leb, List, [], ◌∷◌, ◌++◌, map, length, get_or, take, drop, decimal, sym, refl, ap, ◌∙◌, subst, arith}
 use Rattle.std.specs.List.{flat_map}
 use Rattle.std.proofs.lemmas.Fmt.{length-decimal-le}
-use Rattle.std.proofs.lemmas.List.{append_assoc, append-nil, drop_more, flat_map_more, drop_all, length_append, length-map, length-take, map-append, take_all, take_more}
+use Rattle.std.proofs.lemmas.List.{append_assoc, append-nil, drop_more, flat_map_more, drop_all, length-append, length-map, length-take, map-append, take_all, take_more}
 use Rattle.std.proofs.lemmas.Bool.{and_left, and_parts, le-leb, leb-true, lt-leb}
 use Rattle.windows.specs.Spans.{Span}
 use Rattle.windows.specs.Windows.{span}
@@ -23,7 +23,7 @@ window_row_short k lo hi small-k small-lo small-hi =
     let a : length (decimal k) ≤ 2 = length-decimal-le 2 k (omega arith) (omega arith) (omega arith) in
     let b : length (decimal lo) ≤ 5 = length-decimal-le 5 lo (omega arith) (omega arith) (omega arith) in
     let d : length (decimal hi) ≤ 5 = length-decimal-le 5 hi (omega arith) (omega arith) (omega arith) in
-    simp length_append (omega arith)
+    simp length-append (omega arith)
 
 -- One more line.
 rows_push : (k : ℕ) (ws : List Span) (w : Span) → rows k (ws ++ (w ∷ [])) ≡ rows k ws ++ window_row (k + length ws) w

@@ -1,7 +1,7 @@
 -- Rules that wake, and rules that stay still.
 --   asleep   a rule that is not awake
 -- Assumes what each lemma states.
-use Rattle.std.proofs.Common.{◌≡◌, ℕ, zero, suc, ◌+◌, ◌-◌, ◌<◌, ◌≤◌, Bool, true, false, ◌||◌, eqb, ◌≢◌, ◌⊎◌, List, [], ◌∷◌, ◌++◌, map, length, get_or, take, drop, set, sym, refl, ap, ◌∙◌, subst, ap₂, subst₂, inl, inr, arith, length_set, take-append-drop}
+use Rattle.std.proofs.Common.{◌≡◌, ℕ, zero, suc, ◌+◌, ◌-◌, ◌<◌, ◌≤◌, Bool, true, false, ◌||◌, eqb, ◌≢◌, ◌⊎◌, List, [], ◌∷◌, ◌++◌, map, length, get_or, take, drop, set, sym, refl, ap, ◌∙◌, subst, ap₂, subst₂, inl, inr, arith, length-set, take-append-drop}
 use lib.ListN.{length-map}
 use borrow.Author.Tests.{eqb-false}
 use Rattle.std.proofs.lemmas.List.{get_or-set_same, get_or-set_other}
@@ -96,7 +96,7 @@ put_windows (k ∷ ks) (u ∷ us) ws e there h =
     ap₂ ◌∷◌
     (put_other ks us (set ws (k - 1) u) k (apart (length ws) k ks there.0 there.1 parts.0) ∙ get_or-set_same ws (k - 1) u nowhere l)
     (put_windows ks us (set ws (k - 1) u) (omega arith)
-    (subst (λ (n : ℕ). Every (IsLine n) ks) (sym (length_set ws (k - 1) u)) there.1) parts.1)
+    (subst (λ (n : ℕ). Every (IsLine n) ks) (sym (length-set ws (k - 1) u)) there.1) parts.1)
 
 -- a rule that narrowed is still on the windows that it left
 pub narrowed_still : (m : Meaning) (ws : List Span) (r : Rule) (us : List Span) → FitRule m (length ws) r → Narrows m ws r us → Still m (put (named m r) us ws) r

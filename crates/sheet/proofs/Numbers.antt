@@ -1,5 +1,5 @@
 -- Counts and windows after a call. Assumes nothing.
-use Rattle.std.proofs.Common.{◌≡◌, ℕ, ◌+◌, ◌≤◌, min, max, Bool, true, false, cond, not, ◌||◌, eqb, List, [], ◌∷◌, ◌++◌, length, Some, None, vec_items, vec_len, Option, sym, refl, ap, ◌∙◌, arith, length_append}
+use Rattle.std.proofs.Common.{◌≡◌, ℕ, ◌+◌, ◌≤◌, min, max, Bool, true, false, cond, not, ◌||◌, eqb, List, [], ◌∷◌, ◌++◌, length, Some, None, vec_items, vec_len, Option, sym, refl, ap, ◌∙◌, arith, length-append}
 use Rattle.std.proofs.lemmas.Bool.{eq-eqb, ne_eqb}
 use Rattle.windows.specs.Spans.{Span}
 use Rattle.windows.specs.Windows.{spanning}
@@ -24,11 +24,11 @@ spanning_is lo hi h =
 
 -- One more line.
 pub grown : (new t : Tables) (s : State) (w : Span) → model new ≡ with_core (model t) (lined_as s (core t) w) → vec_len new.lines.windows ≡ length (model t).core.windows + 1
-grown new t s w e = sym (lines_count new) ∙ ap (λ (x : Model). length x.core.windows) e ∙ length_append (model t).core.windows (w ∷ [])
+grown new t s w e = sym (lines_count new) ∙ ap (λ (x : Model). length x.core.windows) e ∙ length-append (model t).core.windows (w ∷ [])
 
 -- One more rule.
 pub ruled : (new t : Tables) (s : State) (r : Rule) → model new ≡ with_core (model t) (ruled_as s (core t) r) → vec_len new.rules.items ≡ length (model t).core.rules + 1
-ruled new t s r e = sym (rules_count new) ∙ ap (λ (x : Model). length x.core.rules) e ∙ length_append (model t).core.rules (r ∷ [])
+ruled new t s r e = sym (rules_count new) ∙ ap (λ (x : Model). length x.core.rules) e ∙ length-append (model t).core.rules (r ∷ [])
 
 -- One more try.
 pub opened_depth : (new t : Tables) → model new ≡ opened_as (model t) → vec_len new.tries ≡ length (model t).saved + 1

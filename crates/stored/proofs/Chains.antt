@@ -1,6 +1,6 @@
 -- Why a load ends as it does. Assumes nothing.
 use Rattle.std.proofs.Common.{◌≡◌, ℕ, zero, suc, ◌+◌, ◌-◌, ◌<◌, ◌≤◌, Bool, true, false, cond, eqb, leb, ◌⊎◌, List, [], ◌∷◌, length, Some, None, Ok, Err, Option, Result, sym, refl, ap, ◌∙◌, subst, ap₂, inl, inr, arith}
-use Rattle.std.proofs.lemmas.Bool.{eqb_true, eqb-false, leb-true, leb_false}
+use Rattle.std.proofs.lemmas.Bool.{eqb-true, eqb-false, leb-true, leb-false}
 use Rattle.windows.specs.Meanings.{Meaning}
 use Rattle.law.specs.declared.calls.Refusal.{Refusal}
 use Rattle.stored.specs.declared.fault.LoadFault.{LoadFault}
@@ -38,7 +38,7 @@ module _ {S : Type 0} (take : S → Item → Result S Refusal) (bytes : List ℕ
 
   -- No record may be taken any more.
   last_turn : (at : ℕ) (s : S) (z : Bool) → eqb at 0 ≡ z → Story take bytes 0 at s (cond z (Ok s) (Err (Chain at)))
-  last_turn at s true e = ends_here 0 at s (Ok s) (eqb_true at 0 e, refl)
+  last_turn at s true e = ends_here 0 at s (Ok s) (eqb-true at 0 e, refl)
   last_turn at s false e = ends_here 0 at s (Err (Chain at)) (refl, positive at e, inr refl)
 
   module _ (left at : ℕ) (s : S) (go : S → Result S LoadFault) (rest : (u : S) → Story take bytes left (byte (record_at bytes at) 1) u (go u)) where
@@ -53,10 +53,10 @@ module _ {S : Type 0} (take : S → Item → Result S Refusal) (bytes : List ℕ
     turn :
         (z y : Bool) (o : Option Item) → eqb at 0 ≡ z → leb (records bytes) at ≡ y → read (record_at bytes at) ≡ o →
         Story take bytes (suc left) at s (cond z (Ok s) (cond y (Err (Chain at)) (on_read at (take s) go o)))
-    turn true y o p q r = ends_here (suc left) at s (Ok s) (eqb_true at 0 p, refl)
+    turn true y o p q r = ends_here (suc left) at s (Ok s) (eqb-true at 0 p, refl)
     turn false true o p q r = ends_here (suc left) at s (Err (Chain at)) (refl, positive at p, inl (leb-true (records bytes) at q))
-    turn false false None p q r = ends_here (suc left) at s (Err (Record at)) (refl, positive at p, leb_false (records bytes) at q, omega arith, r)
-    turn false false (Some i) p q r = call_turn i (take s i) (positive at p) (leb_false (records bytes) at q) r refl
+    turn false false None p q r = ends_here (suc left) at s (Err (Record at)) (refl, positive at p, leb-false (records bytes) at q, omega arith, r)
+    turn false false (Some i) p q r = call_turn i (take s i) (positive at p) (leb-false (records bytes) at q) r refl
 
   -- Every walk along the chain has its story.
   story : (left at : ℕ) (s : S) → Story take bytes left at s (walk take bytes left at s)

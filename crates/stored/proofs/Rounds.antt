@@ -1,7 +1,7 @@
 -- What a store writes comes back by a load. Assumes nothing.
 use Rattle.std.proofs.Common.{◌≡◌, ℕ, zero, suc, ◌+◌, ◌-◌, ◌*◌, ◌/◌, ◌%◌, ◌<◌, ◌≤◌, Bool, true, false, cond, not, ◌&&◌, ◌||◌, eqb, ltb, leb, ◌⊎◌, List, [], ◌∷◌, ◌++◌, map, length, get_or, take, drop, Some, None, Ok, Err, Option, Result, sym, refl, ap, ◌∙◌, subst, ap₂, inl, inr, arith, lit<}
-use Rattle.std.proofs.lemmas.List.{append-nil, append_assoc, length_append, length-map, take_at, drop_at}
-use Rattle.std.proofs.lemmas.Bool.{eq-eqb, ne_eqb, or_from, and_from, and_left, and_right, not_from_true, cases_eq, cases_lt, cond-true, cond_false, le-leb, lt-leb, le-ltb}
+use Rattle.std.proofs.lemmas.List.{append-nil, append_assoc, length-append, length-map, take_at, drop_at}
+use Rattle.std.proofs.lemmas.Bool.{eq-eqb, ne_eqb, or_from, and_from, and_left, and_right, not_from_true, cases_eq, cases_lt, cond-true, cond-false, le-leb, lt-leb, le-ltb}
 use Rattle.windows.specs.Meanings.{Meaning}
 use Rattle.windows.specs.Spans.{Span, Every}
 use Rattle.law.specs.declared.calls.Answer.{Answer}
@@ -70,7 +70,7 @@ walk_chained take bytes (x ∷ xs) i P s t p l few e n f q =
     ap (λ (r : List ℕ). byte r 1) here ∙ write_next x (next_index (i + 1) (length xs)) ∙ index_low (i + 1) (length xs) small in
     let one : suc (length xs) - 1 ≡ length xs = omega arith in
     let longer : length (P ++ w) ≡ 8 * (i + 1) =
-    length_append P w ∙ (let z : length P + length w ≡ 8 * (i + 1) = omega (arith, p, write_length x (next_index (i + 1) (length xs))) in z) in
+    length-append P w ∙ (let z : length P + length w ≡ 8 * (i + 1) = omega (arith, p, write_length x (next_index (i + 1) (length xs))) in z) in
     let positive : 0 < i + 1 = omega arith in
     let fewer : i + 1 + length xs < 256 = omega arith in
     let count : records bytes ≡ i + 1 + length xs = n ∙ (let z : i + suc (length xs) ≡ i + 1 + length xs = omega arith in z) in
@@ -106,7 +106,7 @@ take_lines m id vs [] h f l = (h, ap (λ (us : List Span). progress h (plain us 
 take_lines m id vs (w ∷ ws) h f l =
     let room : length vs < 64 = omega arith in
     let more : History = entry (Call.Line w.lo w.hi) (Answer.Numbered (length vs + 1)) ∷ h in
-    let fewer : length (vs ++ (w ∷ [])) + length ws ≤ 64 = simp length_append (omega arith) in
+    let fewer : length (vs ++ (w ∷ [])) + length ws ≤ 64 = simp length-append (omega arith) in
     let rest = take_lines m id (vs ++ (w ∷ [])) ws more f.1 fewer in (
       rest.0,
       (
@@ -136,12 +136,12 @@ no_third_line n c f =
 rule_accepted : (m : Meaning) (id : ℕ) (ws : List Span) (rs : List Rule) (r : Rule) → FitRule m (length ws) r → length rs < 128 → verdict m id (plain ws rs) (Call.Rule r) ≡ None
 unfolding verdict checks
 rule_accepted m id ws rs r f l =
-    cond_false (eqb (m.arity r.kind) 0) _ _ (ne_eqb (m.arity r.kind) 0 (λ z. omega (arith, f.kind_there)))
-    ∙ cond_false (misnames (m.arity r.kind) (length ws) r) _ _
+    cond-false (eqb (m.arity r.kind) 0) _ _ (ne_eqb (m.arity r.kind) 0 (λ z. omega (arith, f.kind_there)))
+    ∙ cond-false (misnames (m.arity r.kind) (length ws) r) _ _
     (or_from (some_of (no_line (length ws)) (named m r)) (eqb (m.arity r.kind) 2 && not (eqb r.c 0))
     (all_there (length ws) (named m r) f.lines_there) (no_third_line (m.arity r.kind) r.c f.no_third))
-    ∙ cond_false (repeats (named m r)) _ _ f.different
-    ∙ cond_false (leb 128 (length rs)) _ _ (lt-leb 128 (length rs) l)
+    ∙ cond-false (repeats (named m r)) _ _ f.different
+    ∙ cond-false (leb 128 (length rs)) _ _ (lt-leb 128 (length rs) l)
 
 -- So rules that fit are taken.
 pub take_rules :
@@ -151,7 +151,7 @@ take_rules m id ws qs [] h f l = (h, ap (λ (us : List Rule). progress h (plain 
 take_rules m id ws qs (r ∷ rs) h f l =
     let room : length qs < 128 = omega arith in
     let more : History = entry (Call.Rule r) (Answer.Numbered (length qs + 1)) ∷ h in
-    let fewer : length (qs ++ (r ∷ [])) + length rs ≤ 128 = simp length_append (omega arith) in
+    let fewer : length (qs ++ (r ∷ [])) + length rs ≤ 128 = simp length-append (omega arith) in
     let rest = take_rules m id ws (qs ++ (r ∷ [])) rs more f.1 fewer in (
       rest.0,
       (
@@ -179,7 +179,7 @@ line_back m w small f next =
 -- The record of a rule of kinds 2 to 5.
 read_rule : (kind a b c next : ℕ) → 2 ≤ kind → kind ≤ 5 → read (kind ∷ next ∷ a ∷ b ∷ c ∷ 0 ∷ 0 ∷ 0 ∷ []) ≡ Some (Item.Rule (ruling kind a b c))
 read_rule kind a b c next l h =
-    cond_false (eqb kind 1) _ _ (ne_eqb kind 1 (λ z. omega arith))
+    cond-false (eqb kind 1) _ _ (ne_eqb kind 1 (λ z. omega arith))
     ∙ cond-true (leb 2 kind && leb kind 5) _ _ (and_from (leb 2 kind) (leb kind 5) (le-leb 2 kind l) (le-leb kind 5 h))
 
 -- The lines that a rule names are numbers of lines.
@@ -235,14 +235,14 @@ chained_length : (i : ℕ) (xs : List Item) → length (chained i xs) ≡ 8 * le
 unfolding chained
 chained_length i [] = refl
 chained_length i (x ∷ xs) =
-    length_append (write x (next_index (i + 1) (length xs))) (chained (i + 1) xs)
+    length-append (write x (next_index (i + 1) (length xs))) (chained (i + 1) xs)
     ∙ (let z : length (write x (next_index (i + 1) (length xs))) + length (chained (i + 1) xs) ≡ 8 * suc (length xs) =
     omega (arith, write_length x (next_index (i + 1) (length xs)), chained_length (i + 1) xs) in z)
 
 pub file_length : (drive mode : ℕ) (xs : List Item) → length (file drive mode xs) ≡ 8 * (1 + length xs)
 unfolding file
 file_length drive mode xs =
-    length_append (head drive mode (next_index 1 (length xs))) (chained 1 xs)
+    length-append (head drive mode (next_index 1 (length xs))) (chained 1 xs)
     ∙ (let z : 8 + length (chained 1 xs) ≡ 8 * (1 + length xs) = omega (arith, chained_length 1 xs) in z)
 
 -- A file of at most 255 records after the head has a good length.

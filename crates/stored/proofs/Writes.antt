@@ -1,6 +1,6 @@
 -- How the file comes into the buffer, record by record. Assumes nothing.
 use Rattle.std.proofs.Common.{◌≡◌, ℕ, ◌+◌, ◌-◌, ◌*◌, ◌<◌, ◌≤◌, List, [], ◌∷◌, ◌++◌, map, length, get_or, take, drop, sym, refl, ap, ◌∙◌, subst, ap₂, arith}
-use Rattle.std.proofs.lemmas.List.{append-nil, append_assoc, length_append, length-map, length-drop, length-take-le, take_at, drop_at, drop-drop, drop_all, drop_more, take-append-drop, get_or_append_left, get_or-append_right, get_or-map}
+use Rattle.std.proofs.lemmas.List.{append-nil, append_assoc, length-append, length-map, length-drop, length-take-le, take_at, drop_at, drop-drop, drop_all, drop_more, take-append-drop, get_or_append_left, get_or-append_right, get_or-map}
 use Rattle.std.proofs.lemmas.Slice.{drop-append-drop}
 use Rattle.windows.specs.Spans.{Span, nowhere}
 use Rattle.windows.specs.Windows.{span}
@@ -18,7 +18,7 @@ write_length (Item.Rule r) next = refl
 -- There is an item for each window and each rule.
 pub items_length : (ws : List Span) (rs : List Rule) → length (items_of ws rs) ≡ length ws + length rs
 items_length ws rs =
-    length_append (map line_item ws) (map Item.Rule rs) ∙ ap₂ (λ (a b : ℕ). a + b) (length-map ws line_item) (length-map rs Item.Rule)
+    length-append (map line_item ws) (map Item.Rule rs) ∙ ap₂ (λ (a b : ℕ). a + b) (length-map ws line_item) (length-map rs Item.Rule)
 
 -- The item of a line, and that of a rule.
 pub item_line :
@@ -70,7 +70,7 @@ put_next E out xs k w l e p =
     ap₂ next_index (let q : k + 2 ≡ k + 1 + 1 = omega arith in q) (sym (length-drop (k + 1) xs)) in
     record {
       done = P ++ w;
-      size = length_append P w ∙ (let q : length P + length w ≡ 8 * (k + 1 + 1) = omega (arith, p.size) in q);
+      size = length-append P w ∙ (let q : length P + length w ≡ 8 * (k + 1 + 1) = omega (arith, p.size) in q);
       here = ap₂ (λ (u v : List ℕ). u ++ (w ++ v)) before after ∙ sym (append_assoc P w (drop (8 * (k + 1 + 1)) E));
       rest =
           append_assoc P w (chained (k + 1 + 1) (drop (k + 1) xs))

@@ -1,7 +1,7 @@
 -- How many lines, rules and tries there are. Assumes nothing.
 use Rattle.std.proofs.Common.{◌≡◌, map, length, vec_items, vec_len, sym, ◌∙◌}
 use lib.ListN.{length-map}
-use Rattle.std.proofs.lemmas.List.{length_reverse}
+use Rattle.std.proofs.lemmas.List.{length-reverse}
 use Rattle.windows.specs.Windows.{span}
 use Rattle.tables.specs.declared.tables.Tables.{Tables}
 use Rattle.tables.specs.Views.{found, model}
@@ -16,6 +16,6 @@ module _ (t : Tables) where
 
   pub tries_count : length (model t).saved ≡ vec_len t.tries
   tries_count =
-      length_reverse (map (found (vec_items t.rules.items)) (vec_items t.tries))
+      length-reverse (map (found (vec_items t.rules.items)) (vec_items t.tries))
       ∙ length-map (vec_items t.tries) (found (vec_items t.rules.items))
       ∙ sym t.tries.ok.0

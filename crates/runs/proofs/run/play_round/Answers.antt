@@ -1,4 +1,4 @@
-use Rattle.std.proofs.Common.{◌≡◌, ℕ, ◌+◌, ◌<◌, ◌≤◌, Bool, true, false, not, List, map, length, sym, refl, ap, ◌∙◌, subst, subst₂, arith, rules, ltb-false, ltb_true}
+use Rattle.std.proofs.Common.{◌≡◌, ℕ, ◌+◌, ◌<◌, ◌≤◌, Bool, true, false, not, List, map, length, sym, refl, ap, ◌∙◌, subst, subst₂, arith, rules, ltb-false, ltb-true}
 use lib.ListN.{length-map}
 use Rattle.std.proofs.lemmas.Bool.{both_ways}
 use Rattle.windows.specs.Spans.{Span}
@@ -77,7 +77,7 @@ loop-i-preserved g c =
         omega arith,
       )
       | in-Narrowed w ↦
-          (let room : c.loop-i.count < c.args.n = ltb_true _ _ (w.in-Narrowed.ensures.room refl) in (
+          (let room : c.loop-i.count < c.args.n = ltb-true _ _ (w.in-Narrowed.ensures.room refl) in (
             omega (arith, w.count-is),
             λ q. let no_way : ⊥ = both_ways c.match-try-rule.quiet w.quiet-is q in absurd no_way,
             λ q. omega (arith, w.count-is, c.loop-i.invariant.4),

@@ -1,4 +1,4 @@
-use Rattle.std.proofs.Common.{◌≡◌, ℕ, ◌+◌, List, [], ◌∷◌, ◌++◌, length, get_or, take, set, vec_items, vec_len, sym, refl, ap, ◌∙◌, arith, length_set}
+use Rattle.std.proofs.Common.{◌≡◌, ℕ, ◌+◌, List, [], ◌∷◌, ◌++◌, length, get_or, take, set, vec_items, vec_len, sym, refl, ap, ◌∙◌, arith, length-set}
 use Rattle.std.proofs.lemmas.List.{take_more, take_more_set, take_all}
 use Rattle.windows.specs.declared.window.Window.{Window}
 use Rattle.runs.proofs.lines.aside.copied.Goals as goal
@@ -6,7 +6,7 @@ use Rattle.runs.proofs.lines.aside.copied.Goals as goal
 -- one window more
 pub loop-i-preserved : goal.loop-i-preserved
 loop-i-preserved c = (
-  length_set c.loop-i.copies c.loop-i.i c.index.result.now ∙ c.loop-i.invariant.0,
+  length-set c.loop-i.copies c.loop-i.i c.index.result.now ∙ c.loop-i.invariant.0,
   take_more_set c.loop-i.copies c.loop-i.i c.index.result.now (omega arith)
       ∙ ap (λ (xs : List Window). xs ++ (c.index.result.now ∷ [])) c.loop-i.invariant.1
       ∙ ap (λ (x : Window). take c.loop-i.i (vec_items c.args.windows.now) ++ (x ∷ [])) c.index.ensures

@@ -1,4 +1,4 @@
-use Rattle.std.proofs.Common.{◌≡◌, ℕ, ◌+◌, ◌<◌, ◌≤◌, ◌≢◌, ◌⊎◌, length, get_or, set, sym, refl, ap, ◌∙◌, ap₂, inl, inr, arith, length_set, below_more}
+use Rattle.std.proofs.Common.{◌≡◌, ℕ, ◌+◌, ◌<◌, ◌≤◌, ◌≢◌, ◌⊎◌, length, get_or, set, sym, refl, ap, ◌∙◌, ap₂, inl, inr, arith, length-set, below_more}
 use lib.Bits.{bit_or, or_zero_l}
 use Rattle.std.proofs.lemmas.List.{get_or-set_same, get_or-set_other, get_or_past}
 use Rattle.std.proofs.lemmas.Bool.{cases_lt}
@@ -15,7 +15,7 @@ loop-w-preserved c =
     let w = c.loop-w.w in
     let joined = bit_or (get_or words w 0) (get_or c.args.other.now.words w 0) in
     let there : w < length words = omega (arith, c.loop-w.invariant.0) in (
-      length_set words w joined ∙ c.loop-w.invariant.0,
+      length-set words w joined ∙ c.loop-w.invariant.0,
       below_more _ _
           (λ k h. let ne : k ≢ w = omega arith in get_or-set_other words w k joined 0 ne ∙ c.loop-w.invariant.1 k h)
           (get_or-set_same words w joined 0 there ∙ ap (λ (x : ℕ). bit_or x (get_or c.args.other.now.words w 0)) (c.loop-w.invariant.2 w (omega arith))),
