@@ -1,6 +1,8 @@
 //! Compares half products and sums, in all three modes, with a second method that shares nothing with the first: every
 //! unordered pair of half codes is worked out in the machine's f64, in which products and sums of half values are exact, and
 //! the result is looked up between the values of neighbouring codes.
+#![tactic(auto)]
+
 mod compare;
 mod judge;
 

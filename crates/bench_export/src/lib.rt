@@ -1,4 +1,6 @@
 //! The narrowings of both books for C and Rust, for the benchmark.
+#![tactic(auto)]
+
 pub mod ends;
 mod tell;
 

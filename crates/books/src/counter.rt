@@ -42,21 +42,21 @@ impl Book for CounterBook {
 
     fn top_code() -> u32
         ensures value { result ≡ 65535 }
-        ensures* constant { do ⌜ result ≡ (← (⟦CounterBook::TOP⟧).exit) ⌝ }
+        ensures constant { result ≡ CounterBook.TOP }
     {
         Self::TOP
     }
 
     fn drive_number() -> u8
         ensures value { result ≡ 1 }
-        ensures* constant { do ⌜ result ≡ (← (⟦CounterBook::DRIVE⟧).exit) ⌝ }
+        ensures constant { result ≡ CounterBook.DRIVE }
     {
         Self::DRIVE
     }
 
     fn lines(kind: u32) -> u32
         ensures value { result ≡ counter_lines kind }
-        ensures* constant { do ⌜ result ≡ lines_of (among (← (⟦CounterBook::KINDS⟧).exit) kind) ⌝ }
+        ensures constant { result ≡ lines_of (among CounterBook.KINDS kind) }
     {
         Kind::lines_among(&Self::KINDS, kind)
     }

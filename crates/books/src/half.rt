@@ -65,21 +65,21 @@ impl Book for HalfBook {
 
     fn top_code() -> u32
         ensures value { result ≡ 31743 }
-        ensures* constant { do ⌜ result ≡ (← (⟦HalfBook::TOP⟧).exit) ⌝ }
+        ensures constant { result ≡ HalfBook.TOP }
     {
         Self::TOP
     }
 
     fn drive_number() -> u8
         ensures value { result ≡ 0 }
-        ensures* constant { do ⌜ result ≡ (← (⟦HalfBook::DRIVE⟧).exit) ⌝ }
+        ensures constant { result ≡ HalfBook.DRIVE }
     {
         Self::DRIVE
     }
 
     fn lines(kind: u32) -> u32
         ensures value { result ≡ half_lines kind }
-        ensures* constant { do ⌜ result ≡ lines_of (among (← (⟦HalfBook::KINDS⟧).exit) kind) ⌝ }
+        ensures constant { result ≡ lines_of (among HalfBook.KINDS kind) }
     {
         Kind::lines_among(&Self::KINDS, kind)
     }

@@ -1,5 +1,7 @@
 //! Books: the interface to a set of rule kinds, what a narrowing promises, and the books of the counter drive and of the
 //! half drive.
+#![tactic(auto)]
+
 pub mod book;
 mod close;
 pub mod counter;

@@ -1,5 +1,7 @@
 //! What a line of the desk means, and what the desk prints: commands read from bytes, replies written as text. Nothing here
 //! knows of a sheet.
+#![tactic(auto)]
+
 mod class;
 pub mod command;
 pub mod hex;

@@ -1,4 +1,6 @@
 //! cuedesk: reads commands from standard input, one a line, and prints an answer for each.
+#![tactic(auto)]
+
 use commands::print::print_answer;
 use desk::desk::Desk;
 use std::io::{BufRead, BufReader, Write};

@@ -1,4 +1,6 @@
 //! cuetrace: reads a stored sheet from standard input and prints its report.
+#![tactic(auto)]
+
 use anyhow::anyhow;
 use report::export::trace;
 use std::io::{Read, Write};

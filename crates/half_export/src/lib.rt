@@ -1,4 +1,6 @@
 //! Half products and sums for C and Rust: one pair at a time, or the pairs of two rows of codes.
+#![tactic(auto)]
+
 mod rows;
 
 ghost use Rattle.std.specs.Prelude.{ℕ, ◌<◌, ◌≤◌, min, cond, ◌≡◌, ltb, length, get_or};

@@ -1,4 +1,6 @@
 //! Tests of the sheet on worked cases, and clients that hold tickets.
+#![tactic(auto)]
+
 #[cfg(test)]
 mod tests;
 mod tickets;

@@ -1,4 +1,6 @@
 //! Stored sheets: a sheet set up from bytes, and a sheet written as bytes.
+#![tactic(auto)]
+
 pub mod fault;
 pub mod item;
 pub mod load;
