@@ -46,7 +46,7 @@ fn tell(answer: Narrowing, ends: &mut Ends) -> u32
 
 /// Asks the book to narrow the windows between these ends.
 pub(crate) fn narrow_ends<B: Book>(book: &B, kind: u32, ends: &mut Ends) -> u32
-    ensures { Told top (arity kind) (related book.now kind) ends.old ends.new result }
+    ensures { Told B.top (B.arity kind) (B.related book.now kind) ends.old ends.new result }
 {
     let answer = book.narrow(kind, window(ends.a), window(ends.b), window(ends.c));
     tell(answer, ends)

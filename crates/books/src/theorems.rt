@@ -9,7 +9,7 @@ use half::laws::half_over;
 /// Hands a number on, beside the theorem that the book has one answer to each kind and each three windows.
 fn with_one_answer<B: Book>(book: &B, count: u32) -> u32
     ensures same { result ≡ count }
-    ensures one { (kind : ℕ) → OneAnswer top (arity kind) (related book.now kind) }
+    ensures one { (kind : ℕ) → OneAnswer B.top (B.arity kind) (B.related book.now kind) }
 {
     count
 }
@@ -26,7 +26,7 @@ fn with_cases(count: u32) -> u32
 /// A book has one answer to each kind and each three windows; answers how many there can be.
 pub fn one_answer<B: Book>(book: &B) -> u32
     ensures count { result ≡ 1 }
-    ensures one { (kind : ℕ) → OneAnswer top (arity kind) (related book.now kind) }
+    ensures one { (kind : ℕ) → OneAnswer B.top (B.arity kind) (B.related book.now kind) }
 {
     with_one_answer(book, 1)
 }

@@ -16,7 +16,7 @@ pub fn smallest_box<O: Operation + Copy>(
     b: Interval,
     c: Interval,
 ) -> Option<Cuboid>
-    ensures { Closed (code op) a b c result }
+    ensures { Closed (O.code op) a b c result }
 {
     let end = c.hi + 1;
     let all = Field {

@@ -7,7 +7,7 @@ use codes::operation::Operation;
 /// The first code from `low` before `high` whose result with `x` is at least `t`, by halving; else `high`.
 pub(crate) fn halve<O: Operation>(op: &O, x: u32, mut low: u32, mut high: u32, t: u32) -> u32
     requires { low ≤ high }
-    ensures { Reaches (code op.now x) low high t result }
+    ensures { Reaches (O.code op.now x) low high t result }
 {
     while low < high {
         let middle = low + (high - low) / 2;
@@ -23,7 +23,7 @@ pub(crate) fn halve<O: Operation>(op: &O, x: u32, mut low: u32, mut high: u32, t
 /// The first code from `from` before `end` whose result with `x` is at least `t`, or `end`, where the operation's hint is that code.
 fn hinted<O: Operation>(op: &O, x: u32, from: u32, end: u32, t: u32) -> Option<u32>
     requires { from ≤ end }
-    ensures { elim result [ Some k ↦ Reaches (code op.now x) from end t k | None ↦ Unit {0} ] }
+    ensures { elim result [ Some k ↦ Reaches (O.code op.now x) from end t k | None ↦ Unit {0} ] }
 {
     let guess = op.hint(x, t)?.max(from).min(end);
     if guess > from && op.apply(x, guess - 1) >= t {
@@ -38,7 +38,7 @@ fn hinted<O: Operation>(op: &O, x: u32, from: u32, end: u32, t: u32) -> Option<u
 /// The first code from `from` before `end` whose result with `x` is at least `t`, or `end`: as hinted, or looked for in growing steps from below.
 pub(crate) fn rise<O: Operation>(op: &O, x: u32, from: u32, end: u32, t: u32) -> u32
     requires { (from ≤ end) × (end < 2147483648) }
-    ensures { Reaches (code op.now x) from end t result }
+    ensures { Reaches (O.code op.now x) from end t result }
 {
     if let Some(found) = hinted(op, x, from, end, t) {
         return found;
@@ -59,7 +59,7 @@ pub(crate) fn rise<O: Operation>(op: &O, x: u32, from: u32, end: u32, t: u32) ->
 /// The same code as `rise` finds: as hinted, or looked for in growing steps from above.
 pub(crate) fn fall<O: Operation>(op: &O, x: u32, from: u32, end: u32, t: u32) -> u32
     requires { (from ≤ end) × (end < 2147483648) }
-    ensures { Reaches (code op.now x) from end t result }
+    ensures { Reaches (O.code op.now x) from end t result }
 {
     if let Some(found) = hinted(op, x, from, end, t) {
         return found;

@@ -10,7 +10,7 @@ use codes::swapped::Swapped;
 /// The hit with the least first and the greatest second code of all hits in the field, or `None` where there is no hit.
 /// As long as the result is too low only a greater first code can help, as long as it is too high only a lesser second one.
 pub(crate) fn corner<O: Operation + Copy>(op: O, field: Field) -> Option<Point>
-    ensures { Cornered (code op) field result }
+    ensures { Cornered (O.code op) field result }
 {
     let across = Swapped { op };
     let mut x = field.x0;
@@ -66,8 +66,8 @@ fn above(field: Field, best: Point) -> Field
 
 /// The lowest hit that has the first code of the hit `at`.
 fn lowest<O: Operation + Copy>(op: O, field: Field, at: Point) -> Point
-    requires { Hit (code op) field at.x at.y }
-    ensures { Lowest (code op) field at result }
+    requires { Hit (O.code op) field at.x at.y }
+    ensures { Lowest (O.code op) field at result }
 {
     let y = fall(&op, at.x, field.y0, at.y, field.lo);
     Point {
@@ -79,8 +79,8 @@ fn lowest<O: Operation + Copy>(op: O, field: Field, at: Point) -> Point
 
 /// The rightmost hit that has the second code of the hit `at`.
 fn rightmost<O: Operation + Copy>(op: O, field: Field, at: Point) -> Point
-    requires { Hit (code op) field at.x at.y }
-    ensures { Rightmost (code op) field at result }
+    requires { Hit (O.code op) field at.x at.y }
+    ensures { Rightmost (O.code op) field at result }
 {
     let x = rise(&Swapped { op }, at.y, at.x + 1, field.x1, field.end) - 1;
     Point {
@@ -93,8 +93,8 @@ fn rightmost<O: Operation + Copy>(op: O, field: Field, at: Point) -> Point
 /// The least result of all hits, from the corner on: each walk goes through the results below the best so far, and from each
 /// hit that it comes to down to the lowest one with the same first code.
 pub(crate) fn least<O: Operation + Copy>(op: O, field: Field, start: Point) -> u32
-    requires { Corner (code op) field start }
-    ensures { Least (code op) field result }
+    requires { Corner (O.code op) field start }
+    ensures { Least (O.code op) field result }
 {
     let bottom = op.apply(field.x0, field.y0);
     if bottom >= field.lo {
@@ -113,8 +113,8 @@ pub(crate) fn least<O: Operation + Copy>(op: O, field: Field, start: Point) -> u
 /// The greatest result of all hits, from the corner on: each walk goes through the results above the best so far, and from each
 /// hit that it comes to on to the rightmost one with the same second code.
 pub(crate) fn greatest<O: Operation + Copy>(op: O, field: Field, start: Point) -> u32
-    requires { Corner (code op) field start }
-    ensures { Greatest (code op) field result }
+    requires { Corner (O.code op) field start }
+    ensures { Greatest (O.code op) field result }
 {
     let top = op.apply(field.x1 - 1, field.y1);
     if top < field.end {

@@ -17,7 +17,7 @@ pub trait Meant {
 /// Hands a number on, beside the law.
 fn with_law<M: Meant>(n: u8) -> u8
     ensures same { result ≡ n }
-    ensures law { Lawful meaning }
+    ensures law { Lawful M.meaning }
 {
     n
 }
@@ -25,8 +25,8 @@ fn with_law<M: Meant>(n: u8) -> u8
 /// Hands a number on, beside what a call comes to.
 fn with_outcomes<M: Meant>(n: u8) -> u8
     ensures same { result ≡ n }
-    ensures unique { Deterministic meaning }
-    ensures exists { Total meaning }
+    ensures unique { Deterministic M.meaning }
+    ensures exists { Total M.meaning }
 {
     n
 }
@@ -34,8 +34,8 @@ fn with_outcomes<M: Meant>(n: u8) -> u8
 /// Hands a number on, beside what a run comes to.
 fn with_endings<M: Meant>(n: u8) -> u8
     ensures same { result ≡ n }
-    ensures unique { UniqueEnding meaning }
-    ensures exists { EndingExists meaning }
+    ensures unique { UniqueEnding M.meaning }
+    ensures exists { EndingExists M.meaning }
 {
     n
 }
@@ -52,7 +52,7 @@ fn with_cases(n: u8) -> u8
 /// After every list of calls the law holds of the sheet that it leads to; answers how many kinds of call there are.
 pub fn law_holds<M: Meant>() -> u8
     ensures calls { result ≡ 7 }
-    ensures law { Lawful meaning }
+    ensures law { Lawful M.meaning }
 {
     with_law::<M>(7)
 }
@@ -61,8 +61,8 @@ pub fn law_holds<M: Meant>() -> u8
 /// Answers how many outcomes a call has.
 pub fn calls_have_one_outcome<M: Meant>() -> u8
     ensures outcomes { result ≡ 1 }
-    ensures unique { Deterministic meaning }
-    ensures exists { Total meaning }
+    ensures unique { Deterministic M.meaning }
+    ensures exists { Total M.meaning }
 {
     with_outcomes::<M>(1)
 }
@@ -71,8 +71,8 @@ pub fn calls_have_one_outcome<M: Meant>() -> u8
 /// Answers how many endings a run has.
 pub fn run_has_one_ending<M: Meant>() -> u8
     ensures endings { result ≡ 1 }
-    ensures unique { UniqueEnding meaning }
-    ensures exists { EndingExists meaning }
+    ensures unique { UniqueEnding M.meaning }
+    ensures exists { EndingExists M.meaning }
 {
     with_endings::<M>(1)
 }

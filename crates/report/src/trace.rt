@@ -29,14 +29,14 @@ const ALLOWANCE: u32 = 100000;
 
 /// Settles a sheet with the allowance of a trace.
 fn settle_loaded<B: Book>(sheet: &mut Sheet<B>) -> Result<Settled, Refusal>
-    ensures { Called (meaning top arity counts (related sheet.old.book)) sheet.old.number (model sheet.old.tables) (Call.Settle allowance) (model sheet.new.tables) (settled result) }
+    ensures { Called (meaning B.top B.arity B.counts (B.related sheet.old.book)) sheet.old.number (model sheet.old.tables) (Call.Settle allowance) (model sheet.new.tables) (settled result) }
 {
     sheet.settle(ALLOWANCE)
 }
 
 /// The outcome of a load, once the sheet is settled.
 fn conclude<B: Book>(loaded: &mut Loaded<B>) -> Outcome
-    ensures { Concludes (meaning top arity counts (related loaded.old.sheet.book)) loaded.old.sheet.number (model loaded.old.sheet.tables) loaded.old.fault result (model loaded.new.sheet.tables).core.windows }
+    ensures { Concludes (meaning B.top B.arity B.counts (B.related loaded.old.sheet.book)) loaded.old.sheet.number (model loaded.old.sheet.tables) loaded.old.fault result (model loaded.new.sheet.tables).core.windows }
 {
     match loaded.fault {
         Some(fault) => Outcome::Refused(fault),
@@ -50,7 +50,7 @@ fn conclude<B: Book>(loaded: &mut Loaded<B>) -> Outcome
 /// Loads with this book, settles and writes the report.
 fn trace_by<B: Book + Drop>(room: Room, book: B, input: &[u8], output: &mut [u8]) -> usize
     requires { 1024 ≤ length output.old }
-    ensures { Reported (Comes (meaning top arity counts (related book)) (loads (meaning top arity counts (related book)) 0 drive (mode book) input.now)) output.old output.new result }
+    ensures { Reported (Comes (meaning B.top B.arity B.counts (B.related book)) (loads (meaning B.top B.arity B.counts (B.related book)) 0 B.drive (B.mode book) input.now)) output.old output.new result }
 {
     let mut loaded = load(room, 0, book, input);
     let outcome = conclude(&mut loaded);

@@ -58,8 +58,8 @@ fn try_rule<B: Book>(
     room: bool,
 ) -> Attempt
     ensures room { result ≡ Attempt.Narrowed → room ≡ true }
-    ensures tried { FitTry (meaning top arity counts (related book.now)) (map span lines.old) rule
-        → Attempted (meaning top arity counts (related book.now)) rule room (map span lines.old) (map span lines.new) result }
+    ensures tried { FitTry (meaning B.top B.arity B.counts (B.related book.now)) (map span lines.old) rule
+        → Attempted (meaning B.top B.arity B.counts (B.related book.now)) rule room (map span lines.old) (map span lines.new) result }
     ensures woken { Woken naming.now (map span lines.old) awake.old (map span lines.new) awake.new }
 {
     let before = windows_of(lines, rule);
@@ -93,9 +93,9 @@ fn play_round<B: Book>(
     requires { (start ≤ n) × ((length rules.now ≤ 128) × (length lines.old ≤ 64)) }
     ensures counted { Counted n start result }
     ensures rounded { Indexed rules.now naming.now
-        → Calm (meaning top arity counts (related book.now)) rules.now awake.old (map span lines.old)
-        → Calm (meaning top arity counts (related book.now)) rules.now awake.new (map span lines.new)
-        × Rounded (meaning top arity counts (related book.now)) rules.now n start (map span lines.old) (map span lines.new) result }
+        → Calm (meaning B.top B.arity B.counts (B.related book.now)) rules.now awake.old (map span lines.old)
+        → Calm (meaning B.top B.arity B.counts (B.related book.now)) rules.now awake.new (map span lines.new)
+        × Rounded (meaning B.top B.arity B.counts (B.related book.now)) rules.now n start (map span lines.old) (map span lines.new) result }
 {
     let mut count = start;
     let mut quiet = true;
@@ -123,8 +123,8 @@ fn play_round<B: Book>(
 /// The run of settle with an allowance of `n` narrowings. Where it ends barren, the windows are left as they came to be.
 pub(crate) fn run<B: Book>(book: &B, rules: &[Rule], lines: &mut [Window], n: u32) -> Settled
     requires { (length rules.now ≤ 128) × (length lines.old ≤ 64) }
-    ensures { Ready (meaning top arity counts (related book.now)) rules.now (map span lines.old)
-        → Ended (meaning top arity counts (related book.now)) rules.now n (map span lines.old) (map span lines.new) result }
+    ensures { Ready (meaning B.top B.arity B.counts (B.related book.now)) rules.now (map span lines.old)
+        → Ended (meaning B.top B.arity B.counts (B.related book.now)) rules.now n (map span lines.old) (map span lines.new) result }
 {
     let naming = Naming::of(rules);
     let mut awake = RuleSet::first(rules.len());

@@ -12,8 +12,8 @@ use books::book::Book;
 /// Closes the windows of the lines by the rules, with an allowance of `n` narrowings. Where the run ends barren, the windows
 /// are brought back as they were.
 pub fn settle<B: Book>(book: &B, rules: &Rules, lines: &mut Lines, n: u32) -> Settled
-    ensures { Ready (meaning top arity counts (related book.now)) rules.now.items.items (map span lines.old.windows.items)
-        → Finished (meaning top arity counts (related book.now)) rules.now.items.items n (map span lines.old.windows.items) (map span lines.new.windows.items) result }
+    ensures { Ready (meaning B.top B.arity B.counts (B.related book.now)) rules.now.items.items (map span lines.old.windows.items)
+        → Finished (meaning B.top B.arity B.counts (B.related book.now)) rules.now.items.items n (map span lines.old.windows.items) (map span lines.new.windows.items) result }
 {
     let before = lines.snapshot();
     let settled = run(

@@ -10,9 +10,9 @@ use books::book::Book;
 /// Hands a number on, beside what is the only outcome at this book, and the law.
 fn with_outcome<B: Book>(book: &B, n: u32) -> u32
     ensures same { result ≡ n }
-    ensures ending { UniqueEnding (meaning top arity counts (related book.now)) }
-    ensures outcome { Deterministic (meaning top arity counts (related book.now)) }
-    ensures law { Lawful (meaning top arity counts (related book.now)) }
+    ensures ending { UniqueEnding (meaning B.top B.arity B.counts (B.related book.now)) }
+    ensures outcome { Deterministic (meaning B.top B.arity B.counts (B.related book.now)) }
+    ensures law { Lawful (meaning B.top B.arity B.counts (B.related book.now)) }
 {
     let _ = book;
     n
@@ -22,9 +22,9 @@ fn with_outcome<B: Book>(book: &B, n: u32) -> u32
 /// is; and the law holds of every sheet that a list of calls leads to. Answers how many outcomes a call has.
 pub fn one_outcome<B: Book>(book: &B) -> u32
     ensures outcomes { result ≡ 1 }
-    ensures ending { UniqueEnding (meaning top arity counts (related book.now)) }
-    ensures outcome { Deterministic (meaning top arity counts (related book.now)) }
-    ensures law { Lawful (meaning top arity counts (related book.now)) }
+    ensures ending { UniqueEnding (meaning B.top B.arity B.counts (B.related book.now)) }
+    ensures outcome { Deterministic (meaning B.top B.arity B.counts (B.related book.now)) }
+    ensures law { Lawful (meaning B.top B.arity B.counts (B.related book.now)) }
 {
     with_outcome(book, 1)
 }

@@ -32,7 +32,7 @@ fn two_bytes(low: u8, high: u8) -> u32
 /// Whether a record is a head for this book.
 pub(crate) fn head_fits<B: Book>(book: &B, head: &[u8]) -> bool
     requires { length head.now ≡ 8 }
-    ensures { result ≡ is_head drive (mode book.now) head.now }
+    ensures { result ≡ is_head B.drive (B.mode book.now) head.now }
 {
     (head[0] == 1)
         & ((head[2] == B::drive_number())

@@ -44,7 +44,7 @@ fn open_record(bytes: &[u8], left: usize, at: u8) -> Result<Item, LoadFault>
 
 /// Adds a line or a rule.
 fn take_item<B: Book>(sheet: &mut Sheet<B>, item: Item) -> Result<u32, Refusal>
-    ensures called { Called (meaning top arity counts (related sheet.old.book)) sheet.old.number (model sheet.old.tables) (call_of item) (model sheet.new.tables) (numbered result) }
+    ensures called { Called (meaning B.top B.arity B.counts (B.related sheet.old.book)) sheet.old.number (model sheet.old.tables) (call_of item) (model sheet.new.tables) (numbered result) }
     ensures number { sheet.new.number ≡ sheet.old.number }
     ensures book { sheet.new.book ≡ sheet.old.book }
 {
@@ -56,7 +56,7 @@ fn take_item<B: Book>(sheet: &mut Sheet<B>, item: Item) -> Result<u32, Refusal>
 
 /// The same, for the record at an index, which goes with a refusal.
 fn take_at<B: Book>(sheet: &mut Sheet<B>, item: Item, at: u8) -> Result<u32, Placed>
-    ensures called { Called (meaning top arity counts (related sheet.old.book)) sheet.old.number (model sheet.old.tables) (call_of item) (model sheet.new.tables) (told result) }
+    ensures called { Called (meaning B.top B.arity B.counts (B.related sheet.old.book)) sheet.old.number (model sheet.old.tables) (call_of item) (model sheet.new.tables) (told result) }
     ensures placed { placed_at at result }
     ensures number { sheet.new.number ≡ sheet.old.number }
     ensures book { sheet.new.book ≡ sheet.old.book }
@@ -71,7 +71,7 @@ fn take_at<B: Book>(sheet: &mut Sheet<B>, item: Item, at: u8) -> Result<u32, Pla
 fn take_chain<B: Book>(sheet: &mut Sheet<B>, bytes: &[u8]) -> Result<(), LoadFault>
     requires tables_value { model sheet.old.tables ≡ empty }
     requires bytes_nonzero { 0 < records bytes.now }
-    ensures filled { Filled (meaning top arity counts (related sheet.old.book)) sheet.old.number (model sheet.new.tables) result (chain (meaning top arity counts (related sheet.old.book)) sheet.old.number bytes.now) }
+    ensures filled { Filled (meaning B.top B.arity B.counts (B.related sheet.old.book)) sheet.old.number (model sheet.new.tables) result (chain (meaning B.top B.arity B.counts (B.related sheet.old.book)) sheet.old.number bytes.now) }
     ensures number { sheet.new.number ≡ sheet.old.number }
     ensures book { sheet.new.book ≡ sheet.old.book }
 {
@@ -89,7 +89,7 @@ fn take_chain<B: Book>(sheet: &mut Sheet<B>, bytes: &[u8]) -> Result<(), LoadFau
 /// Fills an empty sheet from the bytes: their length, their head, then the chain.
 fn fill<B: Book>(sheet: &mut Sheet<B>, bytes: &[u8]) -> Result<(), LoadFault>
     requires { model sheet.old.tables ≡ empty }
-    ensures filled { Filled (meaning top arity counts (related sheet.old.book)) sheet.old.number (model sheet.new.tables) result (loads (meaning top arity counts (related sheet.old.book)) sheet.old.number drive (mode sheet.old.book) bytes.now) }
+    ensures filled { Filled (meaning B.top B.arity B.counts (B.related sheet.old.book)) sheet.old.number (model sheet.new.tables) result (loads (meaning B.top B.arity B.counts (B.related sheet.old.book)) sheet.old.number B.drive (B.mode sheet.old.book) bytes.now) }
     ensures number { sheet.new.number ≡ sheet.old.number }
     ensures book { sheet.new.book ≡ sheet.old.book }
 {
@@ -104,7 +104,7 @@ fn fill<B: Book>(sheet: &mut Sheet<B>, bytes: &[u8]) -> Result<(), LoadFault>
 
 /// Sets a sheet up from stored bytes, in this room, with this number and this book. A refused load leaves a fresh sheet.
 pub fn load<B: Book>(room: Room, number: u32, book: B, bytes: &[u8]) -> Loaded<B>
-    ensures loaded { Outcome (meaning top arity counts (related book)) number (model result.sheet.tables) result.fault (loads (meaning top arity counts (related book)) number drive (mode book) bytes.now) }
+    ensures loaded { Outcome (meaning B.top B.arity B.counts (B.related book)) number (model result.sheet.tables) result.fault (loads (meaning B.top B.arity B.counts (B.related book)) number B.drive (B.mode book) bytes.now) }
     ensures number { result.sheet.number ≡ number }
     ensures book { result.sheet.book ≡ book }
 {

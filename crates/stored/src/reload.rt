@@ -16,10 +16,10 @@ use tables::room::Room;
 
 /// Loads what was stored of a sheet, with this number and the sheet's book.
 fn load_again<B: Book + Copy>(room: Room, number: u32, sheet: &Sheet<B>, bytes: &[u8]) -> Loaded<B>
-    requires { (h : History) → Reached (meaning top arity counts (related sheet.now.book)) sheet.now.number h (model sheet.now.tables)
-        → ComesBack (meaning top arity counts (related sheet.now.book)) number drive (mode sheet.now.book) (model sheet.now.tables).core bytes.now }
-    ensures same { SameAgain (meaning top arity counts (related sheet.now.book)) sheet.now.number (model sheet.now.tables) (model result.sheet.tables) result.fault }
-    ensures led { LedTo (meaning top arity counts (related sheet.now.book)) number (model result.sheet.tables) }
+    requires { (h : History) → Reached (meaning B.top B.arity B.counts (B.related sheet.now.book)) sheet.now.number h (model sheet.now.tables)
+        → ComesBack (meaning B.top B.arity B.counts (B.related sheet.now.book)) number B.drive (B.mode sheet.now.book) (model sheet.now.tables).core bytes.now }
+    ensures same { SameAgain (meaning B.top B.arity B.counts (B.related sheet.now.book)) sheet.now.number (model sheet.now.tables) (model result.sheet.tables) result.fault }
+    ensures led { LedTo (meaning B.top B.arity B.counts (B.related sheet.now.book)) number (model result.sheet.tables) }
     ensures number { result.sheet.number ≡ number }
     ensures book { result.sheet.book ≡ sheet.now.book }
 {
@@ -35,12 +35,12 @@ pub fn reload<B: Book + Copy>(
     sheet: &Sheet<B>,
     out: &mut [u8],
 ) -> Result<Loaded<B>, StoreFault>
-    ensures same { IfOk result (λ l. SameAgain (meaning top arity counts (related sheet.now.book)) sheet.now.number (model sheet.now.tables) (model l.sheet.tables) l.fault) }
-    ensures led { IfOk result (λ l. LedTo (meaning top arity counts (related sheet.now.book)) number (model l.sheet.tables)) }
+    ensures same { IfOk result (λ l. SameAgain (meaning B.top B.arity B.counts (B.related sheet.now.book)) sheet.now.number (model sheet.now.tables) (model l.sheet.tables) l.fault) }
+    ensures led { IfOk result (λ l. LedTo (meaning B.top B.arity B.counts (B.related sheet.now.book)) number (model l.sheet.tables)) }
     ensures number { IfOk result (λ l. l.sheet.number ≡ number) }
     ensures book { IfOk result (λ l. l.sheet.book ≡ sheet.now.book) }
     ensures fault { fault_of result ≡ fault_of (stores (model sheet.now.tables) (length out.old)) }
-    ensures buffer { out.new ≡ buffer drive (mode sheet.now.book) (model sheet.now.tables) out.old (stores (model sheet.now.tables) (length out.old)) }
+    ensures buffer { out.new ≡ buffer B.drive (B.mode sheet.now.book) (model sheet.now.tables) out.old (stores (model sheet.now.tables) (length out.old)) }
 {
     let n = store(sheet, out)?;
     Ok(load_again(room, number, sheet, &out[..n]))

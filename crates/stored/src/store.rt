@@ -138,8 +138,8 @@ fn file_size<B: Book>(sheet: &Sheet<B>) -> usize
 fn put_sheet<B: Book>(sheet: &Sheet<B>, out: &mut [u8]) -> usize
     requires { size (model sheet.now.tables).core ≤ length out.old }
     ensures size { result ≡ size (model sheet.now.tables).core }
-    ensures file { out.new ≡ over (file drive (mode sheet.now.book) (items (model sheet.now.tables).core)) out.old }
-    ensures back { Back (meaning top arity counts (related sheet.now.book)) sheet.now.number drive (mode sheet.now.book) (model sheet.now.tables) out.new result }
+    ensures file { out.new ≡ over (file B.drive (B.mode sheet.now.book) (items (model sheet.now.tables).core)) out.old }
+    ensures back { Back (meaning B.top B.arity B.counts (B.related sheet.now.book)) sheet.now.number B.drive (B.mode sheet.now.book) (model sheet.now.tables) out.new result }
 {
     let windows = sheet.all_windows();
     let rules = sheet.all_rules();
@@ -157,8 +157,8 @@ fn put_sheet<B: Book>(sheet: &Sheet<B>, out: &mut [u8]) -> usize
 /// by a load with any number and the same book.
 pub fn store<B: Book>(sheet: &Sheet<B>, out: &mut [u8]) -> Result<usize, StoreFault>
     ensures answer { result ≡ stores (model sheet.now.tables) (length out.old) }
-    ensures buffer { out.new ≡ buffer drive (mode sheet.now.book) (model sheet.now.tables) out.old result }
-    ensures back { RoundTrip (meaning top arity counts (related sheet.now.book)) sheet.now.number drive (mode sheet.now.book) (model sheet.now.tables) out.new result }
+    ensures buffer { out.new ≡ buffer B.drive (B.mode sheet.now.book) (model sheet.now.tables) out.old result }
+    ensures back { RoundTrip (meaning B.top B.arity B.counts (B.related sheet.now.book)) sheet.now.number B.drive (B.mode sheet.now.book) (model sheet.now.tables) out.new result }
 {
     if 0 < sheet.tries() {
         return Err(StoreFault::TryOpen);

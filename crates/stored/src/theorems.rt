@@ -8,7 +8,7 @@ use books::book::Book;
 /// Hands a number on, beside why a load with this book ends as it does.
 fn with_chains<B: Book>(book: &B, n: u32) -> u32
     ensures same { result ≡ n }
-    ensures told { (id : ℕ) → Told (meaning top arity counts (related book.now)) id drive (mode book.now) }
+    ensures told { (id : ℕ) → Told (meaning B.top B.arity B.counts (B.related book.now)) id B.drive (B.mode book.now) }
 {
     let _ = book;
     n
@@ -19,7 +19,7 @@ fn with_chains<B: Book>(book: &B, n: u32) -> u32
 /// that the chain leads to. Answers how many faults of its own a load has.
 pub fn load_is_told<B: Book>(book: &B) -> u32
     ensures faults { result ≡ 4 }
-    ensures told { (id : ℕ) → Told (meaning top arity counts (related book.now)) id drive (mode book.now) }
+    ensures told { (id : ℕ) → Told (meaning B.top B.arity B.counts (B.related book.now)) id B.drive (B.mode book.now) }
 {
     with_chains(book, 4)
 }

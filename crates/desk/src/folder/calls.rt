@@ -55,9 +55,9 @@ fn settled(res: Result<Settled, Refusal>) -> Answer
 impl<B: Book> Folder<B> {
     /// Makes the call. The tickets stay.
     pub(crate) fn plain(&mut self, call: Plain) -> Answer
-        requires { InStep (meaning top arity counts (related self.old.sheet.book)) self.old.sheet.number (model self.old.sheet.tables) self.old.hand.items (vec_capacity self.old.hand) }
-        ensures called { Called (meaning top arity counts (related self.old.sheet.book)) self.old.sheet.number (model self.old.sheet.tables) (call_of call) (model self.new.sheet.tables) result }
-        ensures in_step { InStep (meaning top arity counts (related self.new.sheet.book)) self.new.sheet.number (model self.new.sheet.tables) self.new.hand.items (vec_capacity self.new.hand) }
+        requires { InStep (meaning B.top B.arity B.counts (B.related self.old.sheet.book)) self.old.sheet.number (model self.old.sheet.tables) self.old.hand.items (vec_capacity self.old.hand) }
+        ensures called { Called (meaning B.top B.arity B.counts (B.related self.old.sheet.book)) self.old.sheet.number (model self.old.sheet.tables) (call_of call) (model self.new.sheet.tables) result }
+        ensures in_step { InStep (meaning B.top B.arity B.counts (B.related self.new.sheet.book)) self.new.sheet.number (model self.new.sheet.tables) self.new.hand.items (vec_capacity self.new.hand) }
         ensures hand { self.new.hand.items ≡ self.old.hand.items }
         ensures number { self.new.sheet.number ≡ self.old.sheet.number }
         ensures book { self.new.sheet.book ≡ self.old.sheet.book }

@@ -27,8 +27,8 @@ impl<B: Book + Drop> Folder<B> {
     /// A folder for a sheet with no open try. One with an open try, whose ticket is not in hand, is not taken; no sheet that was just
     /// set up or loaded has one.
     fn hold(heap: Global, sheet: Sheet<B>) -> Result<Folder<B>, AllocError>
-        requires sound { ∥ Sound (meaning top arity counts (related sheet.book)) (model sheet.tables) ∥₁ }
-        ensures in_step { IfOk result (λ f. InStep (meaning top arity counts (related f.sheet.book)) f.sheet.number (model f.sheet.tables) f.hand.items (vec_capacity f.hand)) }
+        requires sound { ∥ Sound (meaning B.top B.arity B.counts (B.related sheet.book)) (model sheet.tables) ∥₁ }
+        ensures in_step { IfOk result (λ f. InStep (meaning B.top B.arity B.counts (B.related f.sheet.book)) f.sheet.number (model f.sheet.tables) f.hand.items (vec_capacity f.hand)) }
         ensures sheet { IfOk result (λ f. f.sheet ≡ sheet) }
         ensures hand { IfOk result (λ f. f.hand.items ≡ []) }
     {
@@ -41,7 +41,7 @@ impl<B: Book + Drop> Folder<B> {
 
     /// A folder for an empty sheet of this number.
     pub(crate) fn new(heap: Global, number: u32, book: B) -> Result<Folder<B>, AllocError>
-        ensures in_step { IfOk result (λ f. InStep (meaning top arity counts (related f.sheet.book)) f.sheet.number (model f.sheet.tables) f.hand.items (vec_capacity f.hand)) }
+        ensures in_step { IfOk result (λ f. InStep (meaning B.top B.arity B.counts (B.related f.sheet.book)) f.sheet.number (model f.sheet.tables) f.hand.items (vec_capacity f.hand)) }
         ensures empty { IfOk result (λ f. model f.sheet.tables ≡ empty) }
         ensures number { IfOk result (λ f. f.sheet.number ≡ number) }
         ensures book { IfOk result (λ f. f.sheet.book ≡ book) }
@@ -61,7 +61,7 @@ impl<B: Book + Drop> Folder<B> {
         book: B,
         bytes: &[u8],
     ) -> Result<Filed<B>, AllocError>
-        ensures in_step { IfOk result (λ f. InStep (meaning top arity counts (related f.folder.sheet.book)) f.folder.sheet.number (model f.folder.sheet.tables) f.folder.hand.items (vec_capacity f.folder.hand)) }
+        ensures in_step { IfOk result (λ f. InStep (meaning B.top B.arity B.counts (B.related f.folder.sheet.book)) f.folder.sheet.number (model f.folder.sheet.tables) f.folder.hand.items (vec_capacity f.folder.hand)) }
         ensures number { IfOk result (λ f. f.folder.sheet.number ≡ number) }
         ensures book { IfOk result (λ f. f.folder.sheet.book ≡ book) }
         ensures hand { IfOk result (λ f. f.folder.hand.items ≡ []) }

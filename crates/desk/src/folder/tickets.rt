@@ -24,8 +24,8 @@ pub(crate) enum Ending {
 
 /// Hands a ticket to a sheet.
 fn give<B: Book>(sheet: &mut Sheet<B>, ticket: Ticket, ending: Ending) -> Result<(), Returned>
-    ensures called { Called (meaning top arity counts (related sheet.old.book)) sheet.old.number (model sheet.old.tables) (call_by ending ticket.number ticket.depth) (model sheet.new.tables) (ended ending result) }
-    ensures step { Steps (meaning top arity counts (related sheet.old.book)) sheet.old.number (model sheet.old.tables) (call_by ending ticket.number ticket.depth) (model sheet.new.tables) (ended ending result) }
+    ensures called { Called (meaning B.top B.arity B.counts (B.related sheet.old.book)) sheet.old.number (model sheet.old.tables) (call_by ending ticket.number ticket.depth) (model sheet.new.tables) (ended ending result) }
+    ensures step { Steps (meaning B.top B.arity B.counts (B.related sheet.old.book)) sheet.old.number (model sheet.old.tables) (call_by ending ticket.number ticket.depth) (model sheet.new.tables) (ended ending result) }
     ensures number { sheet.new.number ≡ sheet.old.number }
     ensures book { sheet.new.book ≡ sheet.old.book }
     ensures ticket { returned ticket result }
@@ -49,8 +49,8 @@ fn put_back(hand: &mut Vec<Held>, at: usize, held: Held)
 impl<B: Book> Folder<B> {
     /// Begins a try, and takes its ticket in hand at this place.
     pub(crate) fn open(&mut self, place: u32) -> Result<(), Refusal>
-        requires { InStep (meaning top arity counts (related self.old.sheet.book)) self.old.sheet.number (model self.old.sheet.tables) self.old.hand.items (vec_capacity self.old.hand) }
-        ensures in_step { InStep (meaning top arity counts (related self.new.sheet.book)) self.new.sheet.number (model self.new.sheet.tables) self.new.hand.items (vec_capacity self.new.hand) }
+        requires { InStep (meaning B.top B.arity B.counts (B.related self.old.sheet.book)) self.old.sheet.number (model self.old.sheet.tables) self.old.hand.items (vec_capacity self.old.hand) }
+        ensures in_step { InStep (meaning B.top B.arity B.counts (B.related self.new.sheet.book)) self.new.sheet.number (model self.new.sheet.tables) self.new.hand.items (vec_capacity self.new.hand) }
         ensures number { self.new.sheet.number ≡ self.old.sheet.number }
         ensures book { self.new.sheet.book ≡ self.old.sheet.book }
     {
@@ -65,9 +65,9 @@ impl<B: Book> Folder<B> {
 
     /// Hands one of the folder's own tickets to its sheet. It comes back with a refusal, and is put back.
     pub(crate) fn hand_in(&mut self, at: usize, ending: Ending) -> Result<(), Refusal>
-        requires in_step_2 { InStep (meaning top arity counts (related self.old.sheet.book)) self.old.sheet.number (model self.old.sheet.tables) self.old.hand.items (vec_capacity self.old.hand) }
+        requires in_step_2 { InStep (meaning B.top B.arity B.counts (B.related self.old.sheet.book)) self.old.sheet.number (model self.old.sheet.tables) self.old.hand.items (vec_capacity self.old.hand) }
         requires at_in_bounds { at < vec_len self.old.hand }
-        ensures in_step { InStep (meaning top arity counts (related self.new.sheet.book)) self.new.sheet.number (model self.new.sheet.tables) self.new.hand.items (vec_capacity self.new.hand) }
+        ensures in_step { InStep (meaning B.top B.arity B.counts (B.related self.new.sheet.book)) self.new.sheet.number (model self.new.sheet.tables) self.new.hand.items (vec_capacity self.new.hand) }
         ensures number { self.new.sheet.number ≡ self.old.sheet.number }
         ensures book { self.new.sheet.book ≡ self.old.sheet.book }
     {
@@ -85,7 +85,7 @@ impl<B: Book> Folder<B> {
 impl<B: Book + Drop> Folder<B> {
     /// Strikes the open tries, innermost first, and takes the folder apart.
     pub(crate) fn close(self)
-        requires { InStep (meaning top arity counts (related self.sheet.book)) self.sheet.number (model self.sheet.tables) self.hand.items (vec_capacity self.hand) }
+        requires { InStep (meaning B.top B.arity B.counts (B.related self.sheet.book)) self.sheet.number (model self.sheet.tables) self.hand.items (vec_capacity self.hand) }
     {
         let Folder {
             mut sheet,

@@ -21,8 +21,8 @@ use runs::settled::Settled;
 impl<B: Book> Sheet<B> {
     /// Adds a line with the declared window `lo` to `hi`, and answers its number.
     pub fn line(&mut self, lo: u32, hi: u32) -> Result<u32, Refusal>
-        ensures called { Called (meaning top arity counts (related self.old.book)) self.old.number (model self.old.tables) (Call.Line lo hi) (model self.new.tables) (numbered result) }
-        ensures step { Steps (meaning top arity counts (related self.old.book)) self.old.number (model self.old.tables) (Call.Line lo hi) (model self.new.tables) (numbered result) }
+        ensures called { Called (meaning B.top B.arity B.counts (B.related self.old.book)) self.old.number (model self.old.tables) (Call.Line lo hi) (model self.new.tables) (numbered result) }
+        ensures step { Steps (meaning B.top B.arity B.counts (B.related self.old.book)) self.old.number (model self.old.tables) (Call.Line lo hi) (model self.new.tables) (numbered result) }
         ensures number { self.new.number ≡ self.old.number }
         ensures book { self.new.book ≡ self.old.book }
         ensures tries { length (model self.new.tables).saved ≡ length (model self.old.tables).saved }
@@ -32,8 +32,8 @@ impl<B: Book> Sheet<B> {
 
     /// Adds a rule of this kind on the lines of these numbers, and answers its number. For a two-line kind `c` is 0.
     pub fn rule(&mut self, kind: u32, a: u32, b: u32, c: u32) -> Result<u32, Refusal>
-        ensures called { Called (meaning top arity counts (related self.old.book)) self.old.number (model self.old.tables) (Call.Rule (named kind a b c)) (model self.new.tables) (numbered result) }
-        ensures step { Steps (meaning top arity counts (related self.old.book)) self.old.number (model self.old.tables) (Call.Rule (named kind a b c)) (model self.new.tables) (numbered result) }
+        ensures called { Called (meaning B.top B.arity B.counts (B.related self.old.book)) self.old.number (model self.old.tables) (Call.Rule (named kind a b c)) (model self.new.tables) (numbered result) }
+        ensures step { Steps (meaning B.top B.arity B.counts (B.related self.old.book)) self.old.number (model self.old.tables) (Call.Rule (named kind a b c)) (model self.new.tables) (numbered result) }
         ensures number { self.new.number ≡ self.old.number }
         ensures book { self.new.book ≡ self.old.book }
         ensures tries { length (model self.new.tables).saved ≡ length (model self.old.tables).saved }
@@ -43,8 +43,8 @@ impl<B: Book> Sheet<B> {
 
     /// Cuts the line's window down to what lies in `lo` to `hi` as well.
     pub fn pinch(&mut self, line: u32, lo: u32, hi: u32) -> Result<(), Refusal>
-        ensures called { Called (meaning top arity counts (related self.old.book)) self.old.number (model self.old.tables) (Call.Pinch line lo hi) (model self.new.tables) (pinched result) }
-        ensures step { Steps (meaning top arity counts (related self.old.book)) self.old.number (model self.old.tables) (Call.Pinch line lo hi) (model self.new.tables) (pinched result) }
+        ensures called { Called (meaning B.top B.arity B.counts (B.related self.old.book)) self.old.number (model self.old.tables) (Call.Pinch line lo hi) (model self.new.tables) (pinched result) }
+        ensures step { Steps (meaning B.top B.arity B.counts (B.related self.old.book)) self.old.number (model self.old.tables) (Call.Pinch line lo hi) (model self.new.tables) (pinched result) }
         ensures number { self.new.number ≡ self.old.number }
         ensures book { self.new.book ≡ self.old.book }
         ensures tries { length (model self.new.tables).saved ≡ length (model self.old.tables).saved }
@@ -54,11 +54,11 @@ impl<B: Book> Sheet<B> {
 
     /// Closes windows until no rule closes them further, with an allowance of `n` narrowings.
     pub fn settle(&mut self, n: u32) -> Result<Settled, Refusal>
-        ensures called { Called (meaning top arity counts (related self.old.book)) self.old.number (model self.old.tables) (Call.Settle n) (model self.new.tables) (settled result) }
+        ensures called { Called (meaning B.top B.arity B.counts (B.related self.old.book)) self.old.number (model self.old.tables) (Call.Settle n) (model self.new.tables) (settled result) }
         ensures number { self.new.number ≡ self.old.number }
         ensures book { self.new.book ≡ self.old.book }
         ensures kept { SameRulesAndTries (model self.old.tables) (model self.new.tables) }
-        ensures verdict { fault result ≡ verdict (meaning top arity counts (related self.old.book)) self.old.number (model self.old.tables) (Call.Settle n) }
+        ensures verdict { fault result ≡ verdict (meaning B.top B.arity B.counts (B.related self.old.book)) self.old.number (model self.old.tables) (Call.Settle n) }
         ensures refused { is_ok result ≡ false → model self.new.tables ≡ model self.old.tables }
     {
         self.take_settle(n)
@@ -66,8 +66,8 @@ impl<B: Book> Sheet<B> {
 
     /// Begins a try, and answers its ticket.
     pub fn open(&mut self) -> Result<Ticket, Refusal>
-        ensures called { Called (meaning top arity counts (related self.old.book)) self.old.number (model self.old.tables) Call.Open (model self.new.tables) (opened result) }
-        ensures step { Steps (meaning top arity counts (related self.old.book)) self.old.number (model self.old.tables) Call.Open (model self.new.tables) (opened result) }
+        ensures called { Called (meaning B.top B.arity B.counts (B.related self.old.book)) self.old.number (model self.old.tables) Call.Open (model self.new.tables) (opened result) }
+        ensures step { Steps (meaning B.top B.arity B.counts (B.related self.old.book)) self.old.number (model self.old.tables) Call.Open (model self.new.tables) (opened result) }
         ensures number { self.new.number ≡ self.old.number }
         ensures book { self.new.book ≡ self.old.book }
         ensures innermost { IfOk result (λ t. Innermost self.new.number (model self.new.tables) t.number t.depth) }
@@ -84,8 +84,8 @@ impl<B: Book> Sheet<B> {
 
     /// Ends the try of this ticket; what was done in it stays.
     pub fn keep(&mut self, ticket: Ticket) -> Result<(), Returned>
-        ensures called { Called (meaning top arity counts (related self.old.book)) self.old.number (model self.old.tables) (Call.Keep ticket.number ticket.depth) (model self.new.tables) (kept result) }
-        ensures step { Steps (meaning top arity counts (related self.old.book)) self.old.number (model self.old.tables) (Call.Keep ticket.number ticket.depth) (model self.new.tables) (kept result) }
+        ensures called { Called (meaning B.top B.arity B.counts (B.related self.old.book)) self.old.number (model self.old.tables) (Call.Keep ticket.number ticket.depth) (model self.new.tables) (kept result) }
+        ensures step { Steps (meaning B.top B.arity B.counts (B.related self.old.book)) self.old.number (model self.old.tables) (Call.Keep ticket.number ticket.depth) (model self.new.tables) (kept result) }
         ensures number { self.new.number ≡ self.old.number }
         ensures book { self.new.book ≡ self.old.book }
         ensures ticket { returned ticket result }
@@ -102,8 +102,8 @@ impl<B: Book> Sheet<B> {
 
     /// Ends the try of this ticket, and brings back the state, lines, windows and rules found by its open.
     pub fn strike(&mut self, ticket: Ticket) -> Result<(), Returned>
-        ensures called { Called (meaning top arity counts (related self.old.book)) self.old.number (model self.old.tables) (Call.Strike ticket.number ticket.depth) (model self.new.tables) (struck result) }
-        ensures step { Steps (meaning top arity counts (related self.old.book)) self.old.number (model self.old.tables) (Call.Strike ticket.number ticket.depth) (model self.new.tables) (struck result) }
+        ensures called { Called (meaning B.top B.arity B.counts (B.related self.old.book)) self.old.number (model self.old.tables) (Call.Strike ticket.number ticket.depth) (model self.new.tables) (struck result) }
+        ensures step { Steps (meaning B.top B.arity B.counts (B.related self.old.book)) self.old.number (model self.old.tables) (Call.Strike ticket.number ticket.depth) (model self.new.tables) (struck result) }
         ensures number { self.new.number ≡ self.old.number }
         ensures book { self.new.book ≡ self.old.book }
         ensures ticket { returned ticket result }

@@ -22,8 +22,8 @@ impl<B: Book> Sheet<B> {
         ensures empty { model result.tables ≡ empty }
         ensures number { result.number ≡ number }
         ensures book { result.book ≡ book }
-        ensures reached { Reached (meaning top arity counts (related book)) number [] (model result.tables) }
-        ensures law { Law (meaning top arity counts (related book)) number [] (model result.tables) }
+        ensures reached { Reached (meaning B.top B.arity B.counts (B.related book)) number [] (model result.tables) }
+        ensures law { Law (meaning B.top B.arity B.counts (B.related book)) number [] (model result.tables) }
     {
         Sheet::set_up(room, number, book)
     }
@@ -33,8 +33,8 @@ impl<B: Book> Sheet<B> {
         ensures empty { model result.tables ≡ empty }
         ensures number { result.number ≡ number }
         ensures book { result.book ≡ book }
-        ensures reached { Reached (meaning top arity counts (related book)) number [] (model result.tables) }
-        ensures law { Law (meaning top arity counts (related book)) number [] (model result.tables) }
+        ensures reached { Reached (meaning B.top B.arity B.counts (B.related book)) number [] (model result.tables) }
+        ensures law { Law (meaning B.top B.arity B.counts (B.related book)) number [] (model result.tables) }
     {
         Sheet {
             book,

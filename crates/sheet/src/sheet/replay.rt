@@ -38,7 +38,7 @@ impl<B: Book> Replay<B> {
 impl<B: Book> Sheet<B> {
     /// Makes one call, whichever it is.
     fn play(&mut self, call: Call) -> Answer
-        ensures called { Called (meaning top arity counts (related self.old.book)) self.old.number (model self.old.tables) call (model self.new.tables) result }
+        ensures called { Called (meaning B.top B.arity B.counts (B.related self.old.book)) self.old.number (model self.old.tables) call (model self.new.tables) result }
         ensures number { self.new.number ≡ self.old.number }
         ensures book { self.new.book ≡ self.old.book }
     {
@@ -104,7 +104,7 @@ impl<B: Book + Drop> Replay<B> {
     /// its ticket; no ticket is made, so none is left unspent,
     /// and the sheet can only be read afterwards.
     pub fn of(heap: Global, number: u32, book: B, calls: &[Call]) -> Result<Replay<B>, AllocError>
-        ensures played { IfOk result (λ p. Played (meaning top arity counts (related book)) number calls.now p.answers.items (model p.sheet.tables)) }
+        ensures played { IfOk result (λ p. Played (meaning B.top B.arity B.counts (B.related book)) number calls.now p.answers.items (model p.sheet.tables)) }
         ensures number { IfOk result (λ p. p.sheet.number ≡ number) }
         ensures book { IfOk result (λ p. p.sheet.book ≡ book) }
     {
@@ -113,7 +113,7 @@ impl<B: Book + Drop> Replay<B> {
 
     /// The same, call by call.
     fn played(heap: Global, number: u32, book: B, calls: &[Call]) -> Result<Replay<B>, AllocError>
-        ensures played { IfOk result (λ p. Played (meaning top arity counts (related book)) number calls.now p.answers.items (model p.sheet.tables)) }
+        ensures played { IfOk result (λ p. Played (meaning B.top B.arity B.counts (B.related book)) number calls.now p.answers.items (model p.sheet.tables)) }
         ensures number { IfOk result (λ p. p.sheet.number ≡ number) }
         ensures book { IfOk result (λ p. p.sheet.book ≡ book) }
     {

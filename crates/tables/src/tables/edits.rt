@@ -82,8 +82,8 @@ impl Tables {
     /// Settles with an allowance of `n` narrowings.
     pub fn settle<B: Book>(&mut self, book: &B, n: u32) -> Settled
         ensures kept { SameRulesAndTries (model self.old) (model self.new) }
-        ensures settled { SoundCore (meaning top arity counts (related book.now)) (core self.old)
-            → Settles (meaning top arity counts (related book.now)) (model self.old) n (model self.new) (answered result) }
+        ensures settled { SoundCore (meaning B.top B.arity B.counts (B.related book.now)) (core self.old)
+            → Settles (meaning B.top B.arity B.counts (B.related book.now)) (model self.old) n (model self.new) (answered result) }
     {
         let settled = settle(book, &self.rules, &mut self.lines, n);
         self.state = settled.state();

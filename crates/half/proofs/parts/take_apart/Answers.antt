@@ -29,7 +29,7 @@ high code fraction top some is =
     }
 
 pub returns-then-exponent-eq0 : goal.returns-then-exponent-eq0
-returns-then-exponent-eq0 c = low c.args.code c.fraction-of-fraction.result (omega arith) c.fraction-of-fraction.ensures
+returns-then-exponent-eq0 c = low c.args.code c.fraction_of-fraction.result (omega arith) c.fraction_of-fraction.ensures
 
 pub returns-else-exponent-eq0 : goal.returns-else-exponent-eq0
-returns-else-exponent-eq0 c = high c.args.code c.fraction-of-fraction.result (omega arith) (omega arith) c.fraction-of-fraction.ensures
+returns-else-exponent-eq0 c = high c.args.code c.fraction_of-fraction.result (omega arith) (omega arith) c.fraction_of-fraction.ensures

@@ -23,16 +23,20 @@ same a b s t j k p q =
     let shifts : s * t * 2 ^ (j + k) ≡ s * t * (2 ^ j * 2 ^ k) = ap (λ x. s * t * x) (pow-add 2 j k) in
     omega arith
 
-pub invariant-of-result : goal.invariant-of-result
-invariant-of-result c =
-    let first = c.take-apart-first.ensures in
-    let second = c.take-apart-second.ensures in
-    (omega (arith, small _ _ _ _ _ _ first second), (omega arith, ((λ h. omega (arith, some _ _ _ _ _ _ first second h)), tt)))
+pub invariant_of-result : goal.invariant_of-result
+invariant_of-result c =
+    let first = c.take_apart-first.ensures in
+    let second = c.take_apart-second.ensures in
+    record {
+      small = omega (arith, small _ _ _ _ _ _ first second);
+      low = omega arith;
+      some = λ h. omega (arith, some _ _ _ _ _ _ first second h);
+    }
 
 pub returns : goal.returns
 returns c =
     let product = c.from.ensures in
     record {
       scaled = pow_pos 24;
-      same = rw product (same _ _ _ _ _ _ c.take-apart-first.ensures c.take-apart-second.ensures);
+      same = rw product (same _ _ _ _ _ _ c.take_apart-first.ensures c.take_apart-second.ensures);
     }

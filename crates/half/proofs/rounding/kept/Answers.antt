@@ -34,8 +34,8 @@ nudge-requires c =
     let o = odd_is (c.args.digits / 2 ^ c.args.place) in
     (omega (arith, pow_pos (c.args.place - 1)), (omega arith, omega arith))
 
-pub overflow-add-result : goal.overflow-add-result
-overflow-add-result c =
+pub overflow_add-result : goal.overflow_add-result
+overflow_add-result c =
     let h = half_is c.args.place (omega arith) in
     let low = half_low c.args.place (omega arith) in
     let o = odd_is (c.args.digits / 2 ^ c.args.place) in

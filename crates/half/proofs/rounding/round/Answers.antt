@@ -24,32 +24,32 @@ kept_most m digits shift place r at small is = rw (is, wide digits small) (chose
 
 pub kept-significand-requires : goal.kept-significand-requires
 kept-significand-requires c =
-    let at = placing c.args.exact _ _ c.bit-length.ensures c.last-place-place.ensures in
+    let at = placing c.args.exact _ _ c.bit_length.ensures c.last_place-place.ensures in
     (at.some, (at.low, omega arith))
 
-pub overflow-cast-significand : goal.overflow-cast-significand
-overflow-cast-significand c =
-    let at = placing c.args.exact _ _ c.bit-length.ensures c.last-place-place.ensures in
+pub overflow_cast-significand : goal.overflow_cast-significand
+overflow_cast-significand c =
+    let at = placing c.args.exact _ _ c.bit_length.ensures c.last_place-place.ensures in
     let most = kept_most _ _ _ _ _ at c.args.exact.small c.kept-significand.ensures in
     search rules
 
-pub overflow-add-place : goal.overflow-add-place
-overflow-add-place c =
-    let at = placing c.args.exact _ _ c.bit-length.ensures c.last-place-place.ensures in
+pub overflow_add-place : goal.overflow_add-place
+overflow_add-place c =
+    let at = placing c.args.exact _ _ c.bit_length.ensures c.last_place-place.ensures in
     search rules
 
-pub put-together-requires : goal.put-together-requires
-put-together-requires c =
-    let at = placing c.args.exact _ _ c.bit-length.ensures c.last-place-place.ensures in
+pub put_together-requires : goal.put_together-requires
+put_together-requires c =
+    let at = placing c.args.exact _ _ c.bit_length.ensures c.last_place-place.ensures in
     (omega arith, kept_most _ _ _ _ _ at c.args.exact.small c.kept-significand.ensures)
 
 pub returns : goal.returns
 returns c =
-    let at = placing c.args.exact _ _ c.bit-length.ensures c.last-place-place.ensures in
-    let place = c.last-place-place.result in
+    let at = placing c.args.exact _ _ c.bit_length.ensures c.last_place-place.ensures in
+    let place = c.last_place-place.result in
     let whole = wide c.args.exact.digits c.args.exact.small in
     let kept = c.kept-significand.ensures ∙ ap (λ x. chosen c.args.mode (x / 2 ^ place) (x % 2 ^ place) (2 ^ place)) whole in
-    let joined = c.put-together.ensures ∙ ap (λ x. 1024 * (place + c.args.exact.shift - 35) + x) kept in
+    let joined = c.put_together.ensures ∙ ap (λ x. 1024 * (place + c.args.exact.shift - 35) + x) kept in
     record {
       code = λ e is. c.cut.ensures ∙ ap (λ x. min x (limit half c.args.mode)) joined ∙ sym (at.code c.args.mode e is);
       bounded = omega (arith, c.cut.ensures, limit_low c.args.mode);

@@ -13,4 +13,4 @@ shifted code s k p =
     (whole ∙ sym p.whole, omega (arith, mul-le s (2 ^ k) 2047 (2 ^ 29) (omega (arith, p.narrow)) top))
 
 pub returns : goal.returns
-returns c = let same = c.from.ensures in rw same (shifted _ _ _ c.take-apart-parts.ensures)
+returns c = let same = c.from.ensures in rw same (shifted _ _ _ c.take_apart-parts.ensures)
