@@ -49,13 +49,13 @@ def declared():
     return tops - goals, fields - goals
 
 
-# Lemmas that would get the name of the function that they speak of.
-LEMMAS = {"bit-and", "bit-or"}
+# Lemmas that would get the name of the function that they speak of, and a relation that would get that of a kind of rule.
+OTHERWISE = {"bit-and": "bit_and_lem", "bit-or": "bit_or_lem", "Not-after": "IsNotAfter"}
 
 
 def respelled(name):
-    if name in LEMMAS:
-        return name.replace("-", "_") + "_lem"
+    if name in OTHERWISE:
+        return OTHERWISE[name]
     if name[0].isupper():
         return "".join(part[:1].upper() + part[1:] for part in name.split("-"))
     return name.replace("-", "_")

@@ -1,11 +1,11 @@
 -- A narrowing has one answer. Assumes nothing.
-use Rattle.std.proofs.Common.{◌≡◌, ℕ, List, [], ◌∷◌, ◌++◌, take, drop, sym, refl, ap, ◌∙◌, ap₂, take-append-drop}
+use Rattle.std.proofs.Common.{◌≡◌, ℕ, List, ◌++◌, sym, refl, ap, ◌∙◌, ap₂, take-append-drop}
 use Rattle.windows.specs.Spans.{Span}
 use Rattle.windows.specs.Choices.{NoChoice}
 use Rattle.windows.proofs.Smallest.{smallest_unique}
 use Rattle.books.specs.declared.narrowing.Narrowing.{Narrowing}
 use Rattle.books.specs.declared.narrowing.Narrowing.TheVariants.{Unfit, None, Closed}
-use Rattle.books.specs.Narrowings.{Answered, Closes, Fit, OneAnswer, seen, closed, no_choice, spans, read, passed}
+use Rattle.books.specs.Narrowings.{Answered, Closes, Fit, OneAnswer, seen, closed, no_choice, spans, read}
 
 -- Two boxes that close the same windows are the same.
 closes_once : (n : ℕ) (R : List ℕ → Type 0) (ws us vs : List Span) → Closes n R ws us → Closes n R ws vs → us ≡ vs

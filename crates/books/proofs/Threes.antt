@@ -1,10 +1,10 @@
 -- The smallest box of an operation, told of the windows of a three-line rule. Assumes nothing.
-use Rattle.std.proofs.Common.{◌≡◌, ℕ, zero, suc, ◌<◌, ◌≤◌, List, [], ◌∷◌, length, get_or, refl, arith}
+use Rattle.std.proofs.Common.{◌≡◌, ℕ, zero, suc, ◌<◌, List, [], ◌∷◌, get_or, refl, arith}
 use Rattle.boxes.specs.declared.interval.Interval.{Interval}
 use Rattle.boxes.specs.declared.cuboid.Cuboid.{Cuboid}
 use Rattle.boxes.specs.Boxes as boxes
-use Rattle.windows.specs.Spans.{Span, In, Each, nowhere}
-use Rattle.windows.specs.Choices.{Choice, NoChoice, Supported, EndsSupported, Smallest}
+use Rattle.windows.specs.Spans.{Span, Each, nowhere}
+use Rattle.windows.specs.Choices.{Choice, NoChoice, EndsSupported}
 use Rattle.books.specs.Kinds.{Made}
 use Rattle.books.specs.Narrowings.{Closes, at}
 

@@ -1,24 +1,24 @@
 -- The smallest box of two windows whose codes are in order. Assumes nothing.
-use Rattle.std.proofs.Common.{◌≡◌, ℕ, zero, suc, ◌<◌, ◌≤◌, min, max, List, [], ◌∷◌, length, get_or, refl, arith}
+use Rattle.std.proofs.Common.{◌≡◌, ℕ, zero, suc, ◌<◌, ◌≤◌, min, max, List, [], ◌∷◌, get_or, refl, arith}
 use Rattle.windows.specs.Spans.{Span, In, Each, nowhere}
-use Rattle.windows.specs.Choices.{Choice, NoChoice, Supported, EndsSupported, Smallest}
-use Rattle.books.specs.Kinds.{NotAfter}
+use Rattle.windows.specs.Choices.{Choice, NoChoice, EndsSupported, Smallest}
+use Rattle.books.specs.Kinds.{IsNotAfter}
 
 module _ (a b : Span) where
   -- A choice of the rule has two codes in order.
-  back : (xs : List ℕ) → Choice NotAfter (a ∷ b ∷ []) xs → (x : ℕ) × (y : ℕ) × In a x × In b y × (x ≤ y) × (xs ≡ x ∷ y ∷ [])
+  back : (xs : List ℕ) → Choice IsNotAfter (a ∷ b ∷ []) xs → (x : ℕ) × (y : ℕ) × In a x × In b y × (x ≤ y) × (xs ≡ x ∷ y ∷ [])
   back [] h = absurd h.related
   back (x ∷ []) h = absurd h.related
   back (x ∷ y ∷ []) h = (x, y, h.each.0, h.each.1.0, h.related, refl)
   back (x ∷ y ∷ z ∷ rest) h = absurd h.related
 
   -- The first begins after the second has ended: no choice.
-  pub two_none : b.hi < a.lo → NoChoice NotAfter (a ∷ b ∷ [])
+  pub two_none : b.hi < a.lo → NoChoice IsNotAfter (a ∷ b ∷ [])
   two_none apart xs h = let k = back xs h in omega (arith, k.2.from, k.3.to, k.4)
 
   module _ (first : a.lo ≤ a.hi) (second : b.lo ≤ b.hi) (meet : a.lo ≤ b.hi) where
     -- Two codes of the windows in order are a choice.
-    onto : (x y : ℕ) → a.lo ≤ x → x ≤ a.hi → b.lo ≤ y → y ≤ b.hi → x ≤ y → Choice NotAfter (a ∷ b ∷ []) (x ∷ y ∷ [])
+    onto : (x y : ℕ) → a.lo ≤ x → x ≤ a.hi → b.lo ≤ y → y ≤ b.hi → x ≤ y → Choice IsNotAfter (a ∷ b ∷ []) (x ∷ y ∷ [])
     onto x y l1 h1 l2 h2 o = record { each = (record { from = l1; to = h1 }, (record { from = l2; to = h2 }, tt)); related = o }
 
     -- The closed windows.
@@ -26,7 +26,7 @@ module _ (a b : Span) where
     closed = record { lo = a.lo; hi = min a.hi b.hi } ∷ record { lo = max a.lo b.lo; hi = b.hi } ∷ []
 
     -- No choice is lost.
-    holds : (xs : List ℕ) → Choice NotAfter (a ∷ b ∷ []) xs → Each closed xs
+    holds : (xs : List ℕ) → Choice IsNotAfter (a ∷ b ∷ []) xs → Each closed xs
     holds xs h =
         let k = back xs h in
         let f1 = k.2.from in
@@ -37,7 +37,7 @@ module _ (a b : Span) where
         rw k.5 (record { from = f1; to = omega arith }, (record { from = omega arith; to = t2 }, tt))
 
     -- Each end belongs to a choice.
-    ends : (i : ℕ) → i < 2 → EndsSupported NotAfter (a ∷ b ∷ []) i (get_or closed i nowhere)
+    ends : (i : ℕ) → i < 2 → EndsSupported IsNotAfter (a ∷ b ∷ []) i (get_or closed i nowhere)
     ends zero h = record {
       lower = record { codes = a.lo ∷ b.hi ∷ []; choice = onto _ _ (omega arith) (omega arith) (omega arith) (omega arith) meet; here = refl };
       upper = record { codes = min a.hi b.hi ∷ b.hi ∷ []; choice = onto _ _ (omega arith) (omega arith) (omega arith) (omega arith) (omega arith); here = refl };
@@ -49,5 +49,5 @@ module _ (a b : Span) where
     ends (suc (suc i)) h = let z : ⊥ = omega arith in absurd z
 
     -- The first is cut at the second's upper end, the second at the first's lower end.
-    pub two_closes : Smallest NotAfter (a ∷ b ∷ []) closed
+    pub two_closes : Smallest IsNotAfter (a ∷ b ∷ []) closed
     two_closes = record { same = refl; codes = a.lo ∷ b.hi ∷ []; some = onto _ _ (omega arith) (omega arith) (omega arith) (omega arith) meet; holds = holds; ends = ends }

@@ -56,18 +56,18 @@ Made f (x ∷ y ∷ z ∷ []) = f x y ≡ z
 Made f (x ∷ y ∷ z ∷ w ∷ rest) = ⊥
 
 -- The first of two codes is not above the second.
-abbrev pub NotAfter : List ℕ → Type 0
-NotAfter [] = ⊥
-NotAfter (x ∷ []) = ⊥
-NotAfter (x ∷ y ∷ []) = x ≤ y
-NotAfter (x ∷ y ∷ z ∷ rest) = ⊥
+abbrev pub IsNotAfter : List ℕ → Type 0
+IsNotAfter [] = ⊥
+IsNotAfter (x ∷ []) = ⊥
+IsNotAfter (x ∷ y ∷ []) = x ≤ y
+IsNotAfter (x ∷ y ∷ z ∷ rest) = ⊥
 
 -- What the codes of a rule's lines have to meet, with a drive's product, sum and top.
 abbrev pub Meets : (ℕ → ℕ → ℕ) → (ℕ → ℕ → ℕ) → ℕ → Kind → List ℕ → Type 0
 Meets product sum top Travel = Made product
 Meets product sum top Sum = Made sum
 Meets product sum top Later = Made (later top)
-Meets product sum top NotAfter = NotAfter
+Meets product sum top NotAfter = IsNotAfter
 
 -- The same where there may be no kind, which nothing meets.
 abbrev pub MeetsOf : (ℕ → ℕ → ℕ) → (ℕ → ℕ → ℕ) → ℕ → Option Kind → List ℕ → Type 0

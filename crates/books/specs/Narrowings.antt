@@ -6,9 +6,9 @@
 --   seen      an answer by what it shows: unfit, no choice, or the spans of the closed windows
 -- A kind of n lines reads the first n of three windows; a window's lower end is never above its upper one.
 -- Assumes nothing.
-use Rattle.std.specs.Prelude.{◌≡◌, ℕ, ◌<◌, ◌≤◌, List, [], ◌∷◌, length, get_or, take, drop, Some, Option}
+use Rattle.std.specs.Prelude.{◌≡◌, ℕ, ◌<◌, ◌≤◌, List, [], ◌∷◌, take, drop, Some, Option}
 use Rattle.boxes.specs.declared.interval.Interval.{Interval}
-use Rattle.windows.specs.Spans.{Span, nowhere}
+use Rattle.windows.specs.Spans.{Span}
 use Rattle.windows.specs.Choices.{NoChoice, Smallest}
 use Rattle.windows.specs.Windows.{span}
 use Rattle.books.specs.declared.narrowing.Triple.{Triple}

@@ -2,7 +2,7 @@
 --   product, sum   the code that a drive's operation makes of two codes
 --   travel         a rule of kind 2: what the counter book answers to its windows, lower and upper end of each
 -- Assumes nothing.
-use Rattle.std.specs.Prelude.{◌≡◌, ℕ, List, [], ◌∷◌}
+use Rattle.std.specs.Prelude.{◌≡◌, List, [], ◌∷◌}
 use Rattle.codes.specs.Counter.{counter_product}
 use Rattle.half.specs.Laws.{HalfCases}
 use Rattle.windows.specs.Spans.{Span}

@@ -1,6 +1,6 @@
 //! Rule closers: the smallest box of each kind of rule, and the narrowing that every book is made of.
 ghost use Rattle.std.specs.Prelude.{◌≡◌, ◌<◌, ◌≤◌, true, false, [], ◌∷◌, MatchOption};
-ghost use Rattle.books.specs.Kinds.{Made, Meets, MeetsOf, NotAfter, among, lines, lines_of};
+ghost use Rattle.books.specs.Kinds.{Made, Meets, MeetsOf, IsNotAfter, among, lines, lines_of};
 ghost use Rattle.books.specs.Narrowings.{Answered, Closing, UpTo, at, ends, read};
 ghost use Rattle.windows.specs.Choices.{NoChoice, Smallest};
 ghost use Rattle.windows.specs.Windows.{span};
@@ -32,7 +32,7 @@ fn window(lo: u32, hi: u32) -> Window
 /// The smallest box of three windows under an operation.
 fn by_operation<O: Operation + Copy>(op: O, a: Window, b: Window, c: Window) -> Option<Triple>
     requires { (a.hi < 2147483647) × ((b.hi < 2147483647) × (c.hi < 2147483647)) }
-    ensures { Closing 3 (Made (code op)) (span a ∷ span b ∷ span c ∷ []) result }
+    ensures { Closing 3 (Made (O.code op)) (span a ∷ span b ∷ span c ∷ []) result }
 {
     match smallest_box(op, interval(a), interval(b), interval(c)) {
         None => None,
@@ -46,7 +46,7 @@ fn by_operation<O: Operation + Copy>(op: O, a: Window, b: Window, c: Window) -> 
 
 /// The smallest box of two windows whose codes are in order.
 fn in_order(a: Window, b: Window) -> Option<(Window, Window)>
-    ensures { MatchOption result (NoChoice NotAfter (span a ∷ span b ∷ [])) (λ closed. Smallest NotAfter (span a ∷ span b ∷ []) (span closed.0 ∷ span closed.1 ∷ [])) }
+    ensures { MatchOption result (NoChoice IsNotAfter (span a ∷ span b ∷ [])) (λ closed. Smallest IsNotAfter (span a ∷ span b ∷ []) (span closed.0 ∷ span closed.1 ∷ [])) }
 {
     if a.lo() > b.hi() {
         return None;
@@ -59,7 +59,7 @@ fn in_order(a: Window, b: Window) -> Option<(Window, Window)>
 
 /// The smallest box of two windows whose codes are in order; the third is passed over.
 fn not_after(a: Window, b: Window, passed: Window) -> Option<Triple>
-    ensures { Closing 2 NotAfter (span a ∷ span b ∷ span passed ∷ []) result }
+    ensures { Closing 2 IsNotAfter (span a ∷ span b ∷ span passed ∷ []) result }
 {
     let (first, second) = in_order(a, b)?;
     Some(Triple {

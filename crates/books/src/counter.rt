@@ -40,24 +40,15 @@ impl Book for CounterBook {
 
     ghost within = { Prim.search rules };
 
-    fn top_code() -> u32
-        ensures value { result ≡ 65535 }
-        ensures constant { result ≡ CounterBook.TOP }
-    {
+    fn top_code() -> u32 {
         Self::TOP
     }
 
-    fn drive_number() -> u8
-        ensures value { result ≡ 1 }
-        ensures constant { result ≡ CounterBook.DRIVE }
-    {
+    fn drive_number() -> u8 {
         Self::DRIVE
     }
 
-    fn lines(kind: u32) -> u32
-        ensures value { result ≡ counter_lines kind }
-        ensures constant { result ≡ lines_of (among CounterBook.KINDS kind) }
-    {
+    fn lines(kind: u32) -> u32 {
         Kind::lines_among(&Self::KINDS, kind)
     }
 

@@ -63,24 +63,15 @@ impl Book for HalfBook {
 
     ghost within = { Prim.search rules };
 
-    fn top_code() -> u32
-        ensures value { result ≡ 31743 }
-        ensures constant { result ≡ HalfBook.TOP }
-    {
+    fn top_code() -> u32 {
         Self::TOP
     }
 
-    fn drive_number() -> u8
-        ensures value { result ≡ 0 }
-        ensures constant { result ≡ HalfBook.DRIVE }
-    {
+    fn drive_number() -> u8 {
         Self::DRIVE
     }
 
-    fn lines(kind: u32) -> u32
-        ensures value { result ≡ half_lines kind }
-        ensures constant { result ≡ lines_of (among HalfBook.KINDS kind) }
-    {
+    fn lines(kind: u32) -> u32 {
         Kind::lines_among(&Self::KINDS, kind)
     }
 

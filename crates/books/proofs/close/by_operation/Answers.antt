@@ -1,5 +1,5 @@
 -- The smallest box of the operation, told of the rule's three windows.
-use Rattle.std.proofs.Common.{List, [], ◌∷◌, subst, subst₂}
+use Rattle.std.proofs.Common.{subst, subst₂}
 use Rattle.windows.specs.Choices.{NoChoice}
 use Rattle.books.specs.Kinds.{Made}
 use Rattle.books.specs.Narrowings.{Closes}

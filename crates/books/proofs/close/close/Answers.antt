@@ -1,5 +1,5 @@
 -- Each kind's box is made by its own closer; the answer is told of the kind at hand.
-use Rattle.std.proofs.Common.{◌≡◌, ℕ, min, List, [], ◌∷◌, Option, sym, subst, arith}
+use Rattle.std.proofs.Common.{◌≡◌, ℕ, List, [], ◌∷◌, Option, sym, subst, arith}
 use Rattle.codes.specs.Operations.{later}
 use Rattle.windows.specs.Spans.{Span}
 use Rattle.windows.specs.Windows.{span}
@@ -15,14 +15,14 @@ moved p s top k k' ws r e h = subst (λ (j : Kind). Closing (lines j) (Meets p s
 
 -- Travel by the drive's product, sum by its sum.
 pub returns-in-Travel : goal.returns-in-Travel
-returns-in-Travel g c = moved _ _ _ _ _ _ _ c.in-Travel.is c.by-operation.ensures
+returns-in-Travel g c = moved _ _ _ _ _ _ _ c.in-Travel.is c.by_operation.ensures
 
 pub returns-in-Sum : goal.returns-in-Sum
-returns-in-Sum g c = moved _ _ _ _ _ _ _ c.in-Sum.is c.by-operation-in-Sum.ensures
+returns-in-Sum g c = moved _ _ _ _ _ _ _ c.in-Sum.is c.by_operation-in-Sum.ensures
 
 -- Later by the greater code: a top up to 65535 is not cut.
 pub returns-in-Later : goal.returns-in-Later
 returns-in-Later g c =
     let same : c.new.result.top ≡ c.args.top = omega arith in
     let ws : List Span = span c.args.a ∷ span c.args.b ∷ span c.args.c ∷ [] in
-    moved _ _ _ _ _ _ _ c.in-Later.is (subst (λ (t : ℕ). Closing 3 (Made (later t)) ws c.by-operation-in-Later.result) same c.by-operation-in-Later.ensures)
+    moved _ _ _ _ _ _ _ c.in-Later.is (subst (λ (t : ℕ). Closing 3 (Made (later t)) ws c.by_operation-in-Later.result) same c.by_operation-in-Later.ensures)

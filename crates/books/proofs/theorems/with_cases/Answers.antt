@@ -4,4 +4,4 @@ use Rattle.books.proofs.Travels.{counter_products, counter_travels}
 use Rattle.books.proofs.theorems.with_cases.Goals as goal
 
 pub returns : goal.returns
-returns c = record { same = refl; cases = record { products = counter_products; travels = counter_travels; halves = c.half-over.ensures.cases } }
+returns c = record { same = refl; cases = record { products = counter_products; travels = counter_travels; halves = c.half_over.ensures.cases } }
