@@ -16,7 +16,7 @@ returns-in-Unfit g c =
     record {
       room = search rules;
       woken = woken_same c.args.naming.now (map span c.args.lines.now) c.args.awake.now;
-      tried = λ f. absurd (not_unfit m (map span c.args.lines.now) c.args.rule c.windows-of-before.result c.windows-of-before.ensures f c.in-Unfit.ensures);
+      tried = λ f. absurd (not_unfit m (map span c.args.lines.now) c.args.rule c.windows_of-before.result c.windows_of-before.ensures f c.in-Unfit.ensures);
     }
 
 pub returns-in-None : goal.returns-in-None
@@ -25,7 +25,7 @@ returns-in-None g c =
     record {
       room = search rules;
       woken = woken_same c.args.naming.now (map span c.args.lines.now) c.args.awake.now;
-      tried = λ f. (none_is m (map span c.args.lines.now) c.args.rule c.windows-of-before.result c.windows-of-before.ensures c.in-None.ensures.1, refl);
+      tried = λ f. (none_is m (map span c.args.lines.now) c.args.rule c.windows_of-before.result c.windows_of-before.ensures c.in-None.ensures.1, refl);
     }
 
 -- nothing moved
@@ -35,7 +35,7 @@ returns-then-not-moved g c =
     record {
       room = search rules;
       woken = woken_same c.args.naming.now (map span c.args.lines.now) c.args.awake.now;
-      tried = λ f. (still_is m (map span c.args.lines.now) c.args.rule c.windows-of-before.result c.windows-of-before.ensures c.in-Closed.after c.in-Closed.ensures.1 c.if-not-moved.ensures, refl);
+      tried = λ f. (still_is m (map span c.args.lines.now) c.args.rule c.windows_of-before.result c.windows_of-before.ensures c.in-Closed.after c.in-Closed.ensures.1 c.if-not-moved.ensures, refl);
     }
 
 -- something would, and there is no room
@@ -45,7 +45,7 @@ returns-then-not-room g c =
     record {
       room = search rules;
       woken = woken_same c.args.naming.now (map span c.args.lines.now) c.args.awake.now;
-      tried = λ f. (_, narrows_is m (map span c.args.lines.now) c.args.rule c.windows-of-before.result c.windows-of-before.ensures c.in-Closed.after c.in-Closed.ensures.1 c.if-not-moved.ensures, refl, c.if-not-room.true);
+      tried = λ f. (_, narrows_is m (map span c.args.lines.now) c.args.rule c.windows_of-before.result c.windows_of-before.ensures c.in-Closed.after c.in-Closed.ensures.1 c.if-not-moved.ensures, refl, c.if-not-room.true);
     }
 
 -- something moved
@@ -54,11 +54,11 @@ returns-else-not-room g c =
     let m : Meaning = meaning g.B.Book.top g.B.Book.arity g.B.Book.counts (g.B.Book.related c.args.book.now) in
     record {
       room = λ e. c.if-not-room.false;
-      woken = c.put-back.ensures.woken;
-      tried = λ f. (_, narrows_is m (map span c.args.lines.now) c.args.rule c.windows-of-before.result c.windows-of-before.ensures c.in-Closed.after c.in-Closed.ensures.1 c.if-not-moved.ensures, c.put-back.ensures.put ∙ ap (λ (n : ℕ). put (take n (c.args.rule.a ∷ c.args.rule.b ∷ c.args.rule.c ∷ [])) (read n (spans c.in-Closed.after)) (map span c.args.lines.now)) c.lines.ensures, c.if-not-room.false);
+      woken = c.put_back.ensures.woken;
+      tried = λ f. (_, narrows_is m (map span c.args.lines.now) c.args.rule c.windows_of-before.result c.windows_of-before.ensures c.in-Closed.after c.in-Closed.ensures.1 c.if-not-moved.ensures, c.put_back.ensures.put ∙ ap (λ (n : ℕ). put (take n (c.args.rule.a ∷ c.args.rule.b ∷ c.args.rule.c ∷ [])) (read n (spans c.in-Closed.after)) (map span c.args.lines.now)) c.lines.ensures, c.if-not-room.false);
     }
 
 -- the book has the kind
-pub put-back-requires : goal.put-back-requires
-put-back-requires g c =
+pub put_back-requires : goal.put_back-requires
+put_back-requires g c =
     subst (λ (n : ℕ). (n ≡ 2) ⊎ (n ≡ 3)) (sym c.lines.ensures) (two_or_three _ (g.B.Book.counts c.args.rule.kind) c.in-Closed.ensures.0.known)

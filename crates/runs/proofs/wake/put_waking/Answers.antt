@@ -9,9 +9,9 @@ use Rattle.runs.proofs.wake.put_waking.Goals as goal
 -- the window moves
 pub returns-then-not-same : goal.returns-then-not-same
 returns-then-not-same c = record {
-  put = c.put-at.ensures;
+  put = c.put_at.ensures;
   woken =
-      subst (λ (vs : List Span). Woken c.args.naming.now (map span c.args.lines.now) c.args.awake.now vs c.wake.new.awake) (sym c.put-at.ensures)
+      subst (λ (vs : List Span). Woken c.args.naming.now (map span c.args.lines.now) c.args.awake.now vs c.wake.new.awake) (sym c.put_at.ensures)
       (woken_put c.args.naming.now (map span c.args.lines.now) (c.args.k - 1) (span c.args.w) c.args.awake.now c.wake.new.awake c.wake.ensures.woken c.wake.ensures.past);
 }
 
@@ -19,7 +19,7 @@ returns-then-not-same c = record {
 pub returns-else-not-same : goal.returns-else-not-same
 returns-else-not-same c = record {
   put =
-      sym (ap (set (map span c.args.lines.now) (c.args.k - 1)) (sym c.if-not-same.ensures ∙ c.window-at.ensures)
+      sym (ap (set (map span c.args.lines.now) (c.args.k - 1)) (sym c.if-not-same.ensures ∙ c.window_at.ensures)
       ∙ set-get_or (map span c.args.lines.now) (c.args.k - 1) nowhere);
   woken = woken_same c.args.naming.now (map span c.args.lines.now) c.args.awake.now;
 }

@@ -8,9 +8,9 @@ pub loop-i-preserved : goal.loop-i-preserved
 loop-i-preserved c =
     let d : Window = c.index-copies-i.result in
     let inner : c.loop-i.i < length c.args.copies.now = omega arith in (
-      c.push-reserved.ensures.items
+      c.push_reserved.ensures.items
           ∙ ap (λ (xs : List Window). xs ++ (get_or c.args.copies.now c.loop-i.i d ∷ [])) c.loop-i.invariant.0
           ∙ sym (take_more c.args.copies.now c.loop-i.i d inner),
-      c.push-reserved.ensures.len ∙ ap (λ (k : ℕ). k + 1) c.loop-i.invariant.1,
-      c.push-reserved.ensures.capacity ∙ c.loop-i.invariant.2,
+      c.push_reserved.ensures.len ∙ ap (λ (k : ℕ). k + 1) c.loop-i.invariant.1,
+      c.push_reserved.ensures.capacity ∙ c.loop-i.invariant.2,
     )
