@@ -7,12 +7,12 @@ use Rattle.tables.specs.Views.{model}
 use Rattle.tables.proofs.Counts.{lines_count}
 use Rattle.tables.proofs.tables.Tables.find_window.Goals as goal
 
-pub returns-then-no-line : goal.returns-then-no-line
-returns-then-no-line c =
-    (ap (λ (n : ℕ). no_line n c.args.k) (lines_count c.args.self.now ∙ sym c.line-count.ensures.len) ∙ sym c.no-line.ensures ∙ c.if-no-line.true, refl)
+pub returns-then-no_line : goal.returns-then-no_line
+returns-then-no_line c =
+    (ap (λ (n : ℕ). no_line n c.args.k) (lines_count c.args.self.now ∙ sym c.line_count.ensures.len) ∙ sym c.no_line.ensures ∙ c.if-no_line.true, refl)
 
-pub returns-else-no-line : goal.returns-else-no-line
-returns-else-no-line c = (
-  ap (λ (n : ℕ). no_line n c.args.k) (lines_count c.args.self.now ∙ sym c.line-count.ensures.len) ∙ sym c.no-line.ensures ∙ c.if-no-line.false,
-  c.window-at.ensures ∙ ap (λ (xs : List Window). window (map span xs) c.args.k) c.as-slice.ensures.value,
+pub returns-else-no_line : goal.returns-else-no_line
+returns-else-no_line c = (
+  ap (λ (n : ℕ). no_line n c.args.k) (lines_count c.args.self.now ∙ sym c.line_count.ensures.len) ∙ sym c.no_line.ensures ∙ c.if-no_line.false,
+  c.window_at.ensures ∙ ap (λ (xs : List Window). window (map span xs) c.args.k) c.as_slice.ensures.value,
 )

@@ -5,11 +5,11 @@ use Rattle.tables.proofs.Marks.{nested_pop, saved_pop}
 use Rattle.tables.proofs.Models.{same_sheet}
 use Rattle.tables.proofs.tables.Tables.pop_mark.Goals as goal
 
-pub invariant-of-self : goal.invariant-of-self
-invariant-of-self c =
+pub invariant_of-self : goal.invariant_of-self
+invariant_of-self c =
     let old = c.args.self.now in
     let nest = nested_pop (vec_len old.rules.items) (vec_items old.tries) (vec_items c.pop.new.self) c.pop.result c.pop.ensures.items old.nested in
-    (omega arith, (search rules, (nest, tt)))
+    record { few_tries = omega arith; room_tries = search rules; nested = nest }
 
 pub returns : goal.returns
 returns c =

@@ -9,7 +9,7 @@ pub returns-then-len-lt64 : goal.returns-then-len-lt64
 returns-then-len-lt64 c = record {
   added = λ room.
       same_sheet _ _ _ _ _ _ _ _ refl
-      (ap (map span) c.push-reserved.ensures.items ∙ map_push span (vec_items c.args.self.now.lines.windows) c.args.window)
+      (ap (map span) c.push_reserved.ensures.items ∙ map_push span (vec_items c.args.self.now.lines.windows) c.args.window)
       refl refl;
   full = λ full. let z : ⊥ = omega arith in absurd z;
 }

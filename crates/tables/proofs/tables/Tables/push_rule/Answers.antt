@@ -7,17 +7,17 @@ use Rattle.tables.proofs.Models.{same_sheet}
 use Rattle.tables.proofs.tables.Tables.push_rule.Goals as goal
 
 -- the marks count no rule that is not there
-pub invariant-of-self-then-len-lt128 : goal.invariant-of-self-then-len-lt128
-invariant-of-self-then-len-lt128 c =
+pub invariant_of-self-then-len-lt128 : goal.invariant_of-self-then-len-lt128
+invariant_of-self-then-len-lt128 c =
     let old = c.args.self.now in
-    let nest = subst (λ (n : ℕ). Nested n (vec_items old.tries)) (sym c.push-reserved.ensures.len) (nested_rule (vec_len old.rules.items) (vec_items old.tries) old.nested) in
-    (search rules, (search rules, (nest, tt)))
+    let nest = subst (λ (n : ℕ). Nested n (vec_items old.tries)) (sym c.push_reserved.ensures.len) (nested_rule (vec_len old.rules.items) (vec_items old.tries) old.nested) in
+    record { few_tries = search rules; room_tries = search rules; nested = nest }
 
 -- there is room for the rule
 pub returns-then-len-lt128 : goal.returns-then-len-lt128
 returns-then-len-lt128 c =
     let old = c.args.self.now in
-    let more = c.push-reserved.ensures.items in
+    let more = c.push_reserved.ensures.items in
     record {
       added = λ room.
           same_sheet _ _ _ _ _ _ _ _ refl refl more

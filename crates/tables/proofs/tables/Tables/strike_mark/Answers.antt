@@ -11,15 +11,15 @@ use Rattle.tables.proofs.Models.{same_sheet}
 use Rattle.tables.proofs.tables.Tables.strike_mark.Goals as goal
 
 -- the marks left are nested in the rules left
-pub invariant-of-self : goal.invariant-of-self
-invariant-of-self c =
+pub invariant_of-self : goal.invariant_of-self
+invariant_of-self c =
     let old = c.args.self.now in
     let mark = c.in-Some.mark in
     let all = subst (Nested (vec_len old.rules.items)) c.in-Some.ensures.items old.nested in
     let few : mark.rules ≤ vec_len old.rules.items = last_up_to (vec_len old.rules.items) (vec_items c.pop.new.self) mark all in
-    let count : vec_len c.bring-mark-back-self.new.rules.items ≡ mark.rules = omega (arith, c.bring-mark-back-self.ensures.rule-count) in
+    let count : vec_len c.bring_mark_back-self.new.rules.items ≡ mark.rules = omega (arith, c.bring_mark_back-self.ensures.rule_count) in
     let nest = subst (λ (n : ℕ). Nested n (vec_items c.pop.new.self)) (sym count) (nested_strike (vec_len old.rules.items) (vec_items c.pop.new.self) mark all) in
-    (omega (arith, c.in-Some.ensures.len), (search rules, (nest, tt)))
+    record { few_tries = omega (arith, c.in-Some.ensures.len); room_tries = search rules; nested = nest }
 
 -- the innermost mark's core is back, and the other marks bring back what they did
 pub returns-in-Some : goal.returns-in-Some
@@ -31,8 +31,8 @@ returns-in-Some c =
     let all = subst (Nested (vec_len old.rules.items)) c.in-Some.ensures.items old.nested in
     let saved : reverse (map (found rules) (vec_items old.tries)) ≡ found rules mark ∷ reverse (map (found rules) rest) =
     ap (λ (ms : List Mark). reverse (map (found rules) ms)) c.in-Some.ensures.items ∙ saved_push (found rules) rest mark in
-    same_sheet _ _ _ _ _ _ _ _ c.bring-mark-back-self.ensures.state
-    (ap (map span) c.bring-mark-back-self.ensures.lines)
-    c.bring-mark-back-self.ensures.rules
-    (ap reverse (ap (λ (rs : List Rule). map (found rs) rest) c.bring-mark-back-self.ensures.rules ∙ found_strike rules mark.rules rest (nested_strike (vec_len old.rules.items) rest mark all)))
+    same_sheet _ _ _ _ _ _ _ _ c.bring_mark_back-self.ensures.state
+    (ap (map span) c.bring_mark_back-self.ensures.lines)
+    c.bring_mark_back-self.ensures.rules
+    (ap reverse (ap (λ (rs : List Rule). map (found rs) rest) c.bring_mark_back-self.ensures.rules ∙ found_strike rules mark.rules rest (nested_strike (vec_len old.rules.items) rest mark all)))
     ∙ ap (λ (cs : List Core). record { core = get_or cs 0 (core old); saved = drop 1 cs }) (sym saved)

@@ -8,7 +8,7 @@ use Rattle.tables.proofs.tables.Tables.write_window.Goals as goal
 pub returns : goal.returns
 returns c =
     same_sheet _ _ _ _ _ _ _ _ refl
-    (ap (map span) (with_items_is c.args.self.now.lines.windows c.put-at.new.lines (c.put-at.auto.lines ∙ c.as-mut-slice.ensures.len))
-    ∙ c.put-at.ensures
-    ∙ ap (λ (xs : List Window). set (map span xs) (c.args.k - 1) (span c.args.window)) c.as-mut-slice.ensures.value)
+    (ap (map span) (with_items_is c.args.self.now.lines.windows c.put_at.new.lines (c.put_at.auto.lines ∙ c.as_mut_slice.ensures.len))
+    ∙ c.put_at.ensures
+    ∙ ap (λ (xs : List Window). set (map span xs) (c.args.k - 1) (span c.args.window)) c.as_mut_slice.ensures.value)
     refl refl
