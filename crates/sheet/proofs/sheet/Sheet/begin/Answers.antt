@@ -20,15 +20,15 @@ use Rattle.sheet.proofs.Numbers.{opened_depth}
 use Rattle.sheet.proofs.sheet.Sheet.begin.Goals as goal
 
 -- the sheet's state turns the call away
-pub returns-in-err-admit : goal.returns-in-err-admit
-returns-in-err-admit g c =
+pub returns-in_err-admit : goal.returns-in_err-admit
+returns-in_err-admit g c =
     let m : Meaning = meaning g.B.Book.top g.B.Book.arity g.B.Book.counts (g.B.Book.related c.args.self.now.book) in
     let id : ℕ = c.args.self.now.number in
     let t = c.args.self.now.tables in
-    let p = err_from_is_err_and c.from-residual.result c.from-residual.ensures.1 in
+    let p = err_from_is_err_and c.from_residual.result c.from_residual.ensures.1 in
     rw (p.1, p.2) (record {
-      called = turned_away m id (model t) Call.Open _ (open_barred t m id _ (sym c.in-err-admit.ensures));
-      step = refused _ (open_barred t m id _ (sym c.in-err-admit.ensures)) refl refl;
+      called = turned_away m id (model t) Call.Open _ (open_barred t m id _ (sym c.in_err-admit.ensures));
+      step = refused _ (open_barred t m id _ (sym c.in_err-admit.ensures)) refl refl;
       number = refl;
       book = refl;
       innermost = tt;
@@ -36,15 +36,15 @@ returns-in-err-admit g c =
     })
 
 -- a case of the table does
-pub returns-in-err-check-open : goal.returns-in-err-check-open
-returns-in-err-check-open g c =
+pub returns-in_err-check_open : goal.returns-in_err-check_open
+returns-in_err-check_open g c =
     let m : Meaning = meaning g.B.Book.top g.B.Book.arity g.B.Book.counts (g.B.Book.related c.args.self.now.book) in
     let id : ℕ = c.args.self.now.number in
     let t = c.args.self.now.tables in
-    let p = err_from_is_err_and c.from-residual-in-err-check-open.result c.from-residual-in-err-check-open.ensures.1 in
+    let p = err_from_is_err_and c.from_residual-in_err-check_open.result c.from_residual-in_err-check_open.ensures.1 in
     rw (p.1, p.2) (record {
-      called = turned_away m id (model t) Call.Open _ (open_cleared t m id _ (sym c.in-ok-admit.ensures) ∙ sym c.in-err-check-open.ensures);
-      step = refused _ (open_cleared t m id _ (sym c.in-ok-admit.ensures) ∙ sym c.in-err-check-open.ensures) refl refl;
+      called = turned_away m id (model t) Call.Open _ (open_cleared t m id _ (sym c.in_ok-admit.ensures) ∙ sym c.in_err-check_open.ensures);
+      step = refused _ (open_cleared t m id _ (sym c.in_ok-admit.ensures) ∙ sym c.in_err-check_open.ensures) refl refl;
       number = refl;
       book = refl;
       innermost = tt;
@@ -57,14 +57,14 @@ returns g c =
     let m : Meaning = meaning g.B.Book.top g.B.Book.arity g.B.Book.counts (g.B.Book.related c.args.self.now.book) in
     let id : ℕ = c.args.self.now.number in
     let t = c.args.self.now.tables in
-    let free = open_cleared t m id _ (sym c.in-ok-admit.ensures) ∙ sym c.in-ok-check-open.ensures in
-    let opened = c.begin-try.ensures.begun (subst (λ (n : ℕ). n < 8) (tries_count t) (open_taken m id (model t) free)) in
-    let depth : c.try-count.result ≡ length (model t).saved + 1 = c.try-count.ensures.len ∙ opened_depth c.begin-try.new.self t opened in
+    let free = open_cleared t m id _ (sym c.in_ok-admit.ensures) ∙ sym c.in_ok-check_open.ensures in
+    let opened = c.begin_try.ensures.begun (subst (λ (n : ℕ). n < 8) (tries_count t) (open_taken m id (model t) free)) in
+    let depth : c.try_count.result ≡ length (model t).saved + 1 = c.try_count.ensures.len ∙ opened_depth c.begin_try.new.self t opened in
     record {
-      called = taken m id (model t) Call.Open (model c.begin-try.new.self) (Answer.Opened id c.try-count.result) free (opened, ap (Answer.Opened id) depth);
+      called = taken m id (model t) Call.Open (model c.begin_try.new.self) (Answer.Opened id c.try_count.result) free (opened, ap (Answer.Opened id) depth);
       step = does free (opened, ap (Answer.Opened id) depth);
       number = refl;
       book = refl;
-      innermost = record { own = refl; deepest = c.try-count.ensures.saved; real = omega (arith, depth) };
-      alive = ap (λ (x : Model). is_barren x.core.state) opened ∙ held t.state _ (sym c.in-ok-admit.ensures);
+      innermost = record { own = refl; deepest = c.try_count.ensures.saved; real = omega (arith, depth) };
+      alive = ap (λ (x : Model). is_barren x.core.state) opened ∙ held t.state _ (sym c.in_ok-admit.ensures);
     }

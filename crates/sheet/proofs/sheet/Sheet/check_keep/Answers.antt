@@ -6,13 +6,13 @@ use Rattle.sheet.proofs.Verdicts.{keep_barred, keep_cleared}
 use Rattle.sheet.proofs.sheet.Sheet.check_keep.Goals as goal
 
 -- the sheet's state turns the keep away
-pub returns-in-err-admit : goal.returns-in-err-admit
-returns-in-err-admit g c =
+pub returns-in_err-admit : goal.returns-in_err-admit
+returns-in_err-admit g c =
     let m : Meaning = meaning g.B.Book.top g.B.Book.arity g.B.Book.counts (g.B.Book.related c.args.self.now.book) in
     let id : ℕ = c.args.self.now.number in
     let t = c.args.self.now.tables in
-    let p = err_from_is_err_and c.from-residual.result c.from-residual.ensures.1 in
-    rw (p.1, p.2) (sym (keep_barred t m id c.args.number c.args.depth _ (sym c.in-err-admit.ensures)))
+    let p = err_from_is_err_and c.from_residual.result c.from_residual.ensures.1 in
+    rw (p.1, p.2) (sym (keep_barred t m id c.args.number c.args.depth _ (sym c.in_err-admit.ensures)))
 
 -- or its ticket does, or nothing
 pub returns : goal.returns
@@ -20,4 +20,4 @@ returns g c =
     let m : Meaning = meaning g.B.Book.top g.B.Book.arity g.B.Book.counts (g.B.Book.related c.args.self.now.book) in
     let id : ℕ = c.args.self.now.number in
     let t = c.args.self.now.tables in
-    c.check-ticket.ensures ∙ sym (keep_cleared t m id c.args.number c.args.depth _ (sym c.in-ok-admit.ensures))
+    c.check_ticket.ensures ∙ sym (keep_cleared t m id c.args.number c.args.depth _ (sym c.in_ok-admit.ensures))

@@ -12,18 +12,18 @@ use Rattle.sheet.proofs.Numbers.{never_turned}
 use Rattle.sheet.proofs.sheet.Sheet.end_keeping.Goals as goal
 
 -- the call is turned away
-pub returns-in-err-check-keep : goal.returns-in-err-check-keep
-returns-in-err-check-keep g c =
+pub returns-in_err-check_keep : goal.returns-in_err-check_keep
+returns-in_err-check_keep g c =
     let m : Meaning = meaning g.B.Book.top g.B.Book.arity g.B.Book.counts (g.B.Book.related c.args.self.now.book) in
     let id : ℕ = c.args.self.now.number in
     let t = c.args.self.now.tables in
-    let p = err_from_is_err_and c.from-residual.result c.from-residual.ensures.1 in
+    let p = err_from_is_err_and c.from_residual.result c.from_residual.ensures.1 in
     rw (p.1, p.2) (record {
-      called = turned_away m id (model t) (Call.Keep c.args.number c.args.depth) _ (sym c.in-err-check-keep.ensures);
-      step = refused _ (sym c.in-err-check-keep.ensures) refl refl;
+      called = turned_away m id (model t) (Call.Keep c.args.number c.args.depth) _ (sym c.in_err-check_keep.ensures);
+      step = refused _ (sym c.in_err-check_keep.ensures) refl refl;
       number = refl;
       book = refl;
-      accepts = λ inner alive. absurd (never_turned t id c.args.number c.args.depth _ inner (c.in-err-check-keep.ensures ∙ keep_verdict t m id c.args.number c.args.depth ∙ unbarred t.state (ticket_cases id (vec_len t.tries) c.args.number c.args.depth) alive));
+      accepts = λ inner alive. absurd (never_turned t id c.args.number c.args.depth _ inner (c.in_err-check_keep.ensures ∙ keep_verdict t m id c.args.number c.args.depth ∙ unbarred t.state (ticket_cases id (vec_len t.tries) c.args.number c.args.depth) alive));
     })
 
 -- it is taken
@@ -33,8 +33,8 @@ returns g c =
     let id : ℕ = c.args.self.now.number in
     let t = c.args.self.now.tables in
     record {
-      called = taken m id (model t) (Call.Keep c.args.number c.args.depth) (model c.keep-try.new.self) Answer.Kept (sym c.in-ok-check-keep.ensures) (c.keep-try.ensures, refl);
-      step = does (sym c.in-ok-check-keep.ensures) (c.keep-try.ensures, refl);
+      called = taken m id (model t) (Call.Keep c.args.number c.args.depth) (model c.keep_try.new.self) Answer.Kept (sym c.in_ok-check_keep.ensures) (c.keep_try.ensures, refl);
+      step = does (sym c.in_ok-check_keep.ensures) (c.keep_try.ensures, refl);
       number = refl;
       book = refl;
       accepts = λ inner alive. refl;

@@ -11,18 +11,18 @@ use Rattle.sheet.proofs.Numbers.{never_turned}
 use Rattle.sheet.proofs.sheet.Sheet.end_striking.Goals as goal
 
 -- the call is turned away
-pub returns-in-err-check-ticket : goal.returns-in-err-check-ticket
-returns-in-err-check-ticket g c =
+pub returns-in_err-check_ticket : goal.returns-in_err-check_ticket
+returns-in_err-check_ticket g c =
     let m : Meaning = meaning g.B.Book.top g.B.Book.arity g.B.Book.counts (g.B.Book.related c.args.self.now.book) in
     let id : ℕ = c.args.self.now.number in
     let t = c.args.self.now.tables in
-    let p = err_from_is_err_and c.from-residual.result c.from-residual.ensures.1 in
+    let p = err_from_is_err_and c.from_residual.result c.from_residual.ensures.1 in
     rw (p.1, p.2) (record {
-      called = turned_away m id (model t) (Call.Strike c.args.number c.args.depth) _ (strike_verdict t m id c.args.number c.args.depth ∙ sym c.in-err-check-ticket.ensures);
-      step = refused _ (strike_verdict t m id c.args.number c.args.depth ∙ sym c.in-err-check-ticket.ensures) refl refl;
+      called = turned_away m id (model t) (Call.Strike c.args.number c.args.depth) _ (strike_verdict t m id c.args.number c.args.depth ∙ sym c.in_err-check_ticket.ensures);
+      step = refused _ (strike_verdict t m id c.args.number c.args.depth ∙ sym c.in_err-check_ticket.ensures) refl refl;
       number = refl;
       book = refl;
-      accepts = λ inner. absurd (never_turned t id c.args.number c.args.depth _ inner c.in-err-check-ticket.ensures);
+      accepts = λ inner. absurd (never_turned t id c.args.number c.args.depth _ inner c.in_err-check_ticket.ensures);
     })
 
 -- it is taken
@@ -32,8 +32,8 @@ returns g c =
     let id : ℕ = c.args.self.now.number in
     let t = c.args.self.now.tables in
     record {
-      called = taken m id (model t) (Call.Strike c.args.number c.args.depth) (model c.strike-try.new.self) Answer.Struck (strike_verdict t m id c.args.number c.args.depth ∙ sym c.in-ok-check-ticket.ensures) (c.strike-try.ensures, refl);
-      step = does (strike_verdict t m id c.args.number c.args.depth ∙ sym c.in-ok-check-ticket.ensures) (c.strike-try.ensures, refl);
+      called = taken m id (model t) (Call.Strike c.args.number c.args.depth) (model c.strike_try.new.self) Answer.Struck (strike_verdict t m id c.args.number c.args.depth ∙ sym c.in_ok-check_ticket.ensures) (c.strike_try.ensures, refl);
+      step = does (strike_verdict t m id c.args.number c.args.depth ∙ sym c.in_ok-check_ticket.ensures) (c.strike_try.ensures, refl);
       number = refl;
       book = refl;
       accepts = λ inner. refl;

@@ -20,30 +20,30 @@ use Rattle.sheet.proofs.Numbers.{spanning_is, grown}
 use Rattle.sheet.proofs.sheet.Sheet.take_line.Goals as goal
 
 -- the sheet's state turns the call away
-pub returns-in-err-next : goal.returns-in-err-next
-returns-in-err-next g c =
+pub returns-in_err-next : goal.returns-in_err-next
+returns-in_err-next g c =
     let m : Meaning = meaning g.B.Book.top g.B.Book.arity g.B.Book.counts (g.B.Book.related c.args.self.now.book) in
     let id : ℕ = c.args.self.now.number in
     let t = c.args.self.now.tables in
-    let p = err_from_is_err_and c.from-residual.result c.from-residual.ensures.1 in
+    let p = err_from_is_err_and c.from_residual.result c.from_residual.ensures.1 in
     rw (p.1, p.2) (record {
-      called = turned_away m id (model t) (Call.Line c.args.lo c.args.hi) _ (line_barred t m id c.args.lo c.args.hi _ (sym c.in-err-next.ensures));
-      step = refused _ (line_barred t m id c.args.lo c.args.hi _ (sym c.in-err-next.ensures)) refl refl;
+      called = turned_away m id (model t) (Call.Line c.args.lo c.args.hi) _ (line_barred t m id c.args.lo c.args.hi _ (sym c.in_err-next.ensures));
+      step = refused _ (line_barred t m id c.args.lo c.args.hi _ (sym c.in_err-next.ensures)) refl refl;
       number = refl;
       book = refl;
       tries = refl;
     })
 
 -- a case of the table does
-pub returns-in-err-check-line : goal.returns-in-err-check-line
-returns-in-err-check-line g c =
+pub returns-in_err-check_line : goal.returns-in_err-check_line
+returns-in_err-check_line g c =
     let m : Meaning = meaning g.B.Book.top g.B.Book.arity g.B.Book.counts (g.B.Book.related c.args.self.now.book) in
     let id : ℕ = c.args.self.now.number in
     let t = c.args.self.now.tables in
-    let p = err_from_is_err_and c.from-residual-in-err-check-line.result c.from-residual-in-err-check-line.ensures.1 in
+    let p = err_from_is_err_and c.from_residual-in_err-check_line.result c.from_residual-in_err-check_line.ensures.1 in
     rw (p.1, p.2) (record {
-      called = turned_away m id (model t) (Call.Line c.args.lo c.args.hi) _ (line_cleared t m id c.args.lo c.args.hi _ (sym c.in-ok-next.ensures) ∙ ap (λ (top : ℕ). first (line_cases top (vec_len t.lines.windows) c.args.lo c.args.hi)) (sym c.top-code.ensures) ∙ sym c.in-err-check-line.ensures);
-      step = refused _ (line_cleared t m id c.args.lo c.args.hi _ (sym c.in-ok-next.ensures) ∙ ap (λ (top : ℕ). first (line_cases top (vec_len t.lines.windows) c.args.lo c.args.hi)) (sym c.top-code.ensures) ∙ sym c.in-err-check-line.ensures) refl refl;
+      called = turned_away m id (model t) (Call.Line c.args.lo c.args.hi) _ (line_cleared t m id c.args.lo c.args.hi _ (sym c.in_ok-next.ensures) ∙ ap (λ (top : ℕ). first (line_cases top (vec_len t.lines.windows) c.args.lo c.args.hi)) (sym c.top_code.ensures) ∙ sym c.in_err-check_line.ensures);
+      step = refused _ (line_cleared t m id c.args.lo c.args.hi _ (sym c.in_ok-next.ensures) ∙ ap (λ (top : ℕ). first (line_cases top (vec_len t.lines.windows) c.args.lo c.args.hi)) (sym c.top_code.ensures) ∙ sym c.in_err-check_line.ensures) refl refl;
       number = refl;
       book = refl;
       tries = refl;
@@ -55,14 +55,14 @@ returns g c =
     let m : Meaning = meaning g.B.Book.top g.B.Book.arity g.B.Book.counts (g.B.Book.related c.args.self.now.book) in
     let id : ℕ = c.args.self.now.number in
     let t = c.args.self.now.tables in
-    let free = line_cleared t m id c.args.lo c.args.hi _ (sym c.in-ok-next.ensures) ∙ ap (λ (top : ℕ). first (line_cases top (vec_len t.lines.windows) c.args.lo c.args.hi)) (sym c.top-code.ensures) ∙ sym c.in-ok-check-line.ensures in
+    let free = line_cleared t m id c.args.lo c.args.hi _ (sym c.in_ok-next.ensures) ∙ ap (λ (top : ℕ). first (line_cases top (vec_len t.lines.windows) c.args.lo c.args.hi)) (sym c.top_code.ensures) ∙ sym c.in_ok-check_line.ensures in
     let within = line_taken m id (model t) c.args.lo c.args.hi free in
-    let next = unsettled t.state _ (sym c.in-ok-next.ensures) in
+    let next = unsettled t.state _ (sym c.in_ok-next.ensures) in
     let made = c.spanning.ensures ∙ spanning_is c.args.lo c.args.hi within.ordered in
-    let after = c.add-line.ensures.added (subst (λ (n : ℕ). n < 64) (lines_count t) within.room) ∙ ap₂ (λ (s : State) (w : Span). with_core (model t) (lined_as s (core t) w)) next made in
-    let number : c.line-count.result ≡ length (model t).core.windows + 1 = c.line-count.ensures.len ∙ grown c.add-line.new.self t State.Unsettled (between c.args.lo c.args.hi) after in
+    let after = c.add_line.ensures.added (subst (λ (n : ℕ). n < 64) (lines_count t) within.room) ∙ ap₂ (λ (s : State) (w : Span). with_core (model t) (lined_as s (core t) w)) next made in
+    let number : c.line_count.result ≡ length (model t).core.windows + 1 = c.line_count.ensures.len ∙ grown c.add_line.new.self t State.Unsettled (between c.args.lo c.args.hi) after in
     record {
-      called = taken m id (model t) (Call.Line c.args.lo c.args.hi) (model c.add-line.new.self) (Answer.Numbered c.line-count.result) free (after, ap Answer.Numbered number);
+      called = taken m id (model t) (Call.Line c.args.lo c.args.hi) (model c.add_line.new.self) (Answer.Numbered c.line_count.result) free (after, ap Answer.Numbered number);
       step = does free (after, ap Answer.Numbered number);
       number = refl;
       book = refl;

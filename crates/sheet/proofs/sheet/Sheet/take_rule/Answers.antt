@@ -20,30 +20,30 @@ use Rattle.sheet.proofs.Numbers.{ruled}
 use Rattle.sheet.proofs.sheet.Sheet.take_rule.Goals as goal
 
 -- the sheet's state turns the call away
-pub returns-in-err-next : goal.returns-in-err-next
-returns-in-err-next g c =
+pub returns-in_err-next : goal.returns-in_err-next
+returns-in_err-next g c =
     let m : Meaning = meaning g.B.Book.top g.B.Book.arity g.B.Book.counts (g.B.Book.related c.args.self.now.book) in
     let id : ℕ = c.args.self.now.number in
     let t = c.args.self.now.tables in
-    let p = err_from_is_err_and c.from-residual.result c.from-residual.ensures.1 in
+    let p = err_from_is_err_and c.from_residual.result c.from_residual.ensures.1 in
     rw (p.1, p.2) (record {
-      called = turned_away m id (model t) (Call.Rule c.args.rule) _ (rule_barred t m id c.args.rule _ (sym c.in-err-next.ensures));
-      step = refused _ (rule_barred t m id c.args.rule _ (sym c.in-err-next.ensures)) refl refl;
+      called = turned_away m id (model t) (Call.Rule c.args.rule) _ (rule_barred t m id c.args.rule _ (sym c.in_err-next.ensures));
+      step = refused _ (rule_barred t m id c.args.rule _ (sym c.in_err-next.ensures)) refl refl;
       number = refl;
       book = refl;
       tries = refl;
     })
 
 -- a case of the table does
-pub returns-in-err-check-rule : goal.returns-in-err-check-rule
-returns-in-err-check-rule g c =
+pub returns-in_err-check_rule : goal.returns-in_err-check_rule
+returns-in_err-check_rule g c =
     let m : Meaning = meaning g.B.Book.top g.B.Book.arity g.B.Book.counts (g.B.Book.related c.args.self.now.book) in
     let id : ℕ = c.args.self.now.number in
     let t = c.args.self.now.tables in
-    let p = err_from_is_err_and c.from-residual-in-err-check-rule.result c.from-residual-in-err-check-rule.ensures.1 in
+    let p = err_from_is_err_and c.from_residual-in_err-check_rule.result c.from_residual-in_err-check_rule.ensures.1 in
     rw (p.1, p.2) (record {
-      called = turned_away m id (model t) (Call.Rule c.args.rule) _ (rule_cleared t m id c.args.rule _ (sym c.in-ok-next.ensures) ∙ sym c.in-err-check-rule.ensures);
-      step = refused _ (rule_cleared t m id c.args.rule _ (sym c.in-ok-next.ensures) ∙ sym c.in-err-check-rule.ensures) refl refl;
+      called = turned_away m id (model t) (Call.Rule c.args.rule) _ (rule_cleared t m id c.args.rule _ (sym c.in_ok-next.ensures) ∙ sym c.in_err-check_rule.ensures);
+      step = refused _ (rule_cleared t m id c.args.rule _ (sym c.in_ok-next.ensures) ∙ sym c.in_err-check_rule.ensures) refl refl;
       number = refl;
       book = refl;
       tries = refl;
@@ -55,12 +55,12 @@ returns g c =
     let m : Meaning = meaning g.B.Book.top g.B.Book.arity g.B.Book.counts (g.B.Book.related c.args.self.now.book) in
     let id : ℕ = c.args.self.now.number in
     let t = c.args.self.now.tables in
-    let free = rule_cleared t m id c.args.rule _ (sym c.in-ok-next.ensures) ∙ sym c.in-ok-check-rule.ensures in
-    let next = unsettled t.state _ (sym c.in-ok-next.ensures) in
-    let after = c.add-rule.ensures.added (subst (λ (n : ℕ). n < 128) (rules_count t) (rule_taken m id (model t) c.args.rule free).room) ∙ ap (λ (s : State). with_core (model t) (ruled_as s (core t) c.args.rule)) next in
-    let number : c.rule-count.result ≡ length (model t).core.rules + 1 = c.rule-count.ensures ∙ ruled c.add-rule.new.self t State.Unsettled c.args.rule after in
+    let free = rule_cleared t m id c.args.rule _ (sym c.in_ok-next.ensures) ∙ sym c.in_ok-check_rule.ensures in
+    let next = unsettled t.state _ (sym c.in_ok-next.ensures) in
+    let after = c.add_rule.ensures.added (subst (λ (n : ℕ). n < 128) (rules_count t) (rule_taken m id (model t) c.args.rule free).room) ∙ ap (λ (s : State). with_core (model t) (ruled_as s (core t) c.args.rule)) next in
+    let number : c.rule_count.result ≡ length (model t).core.rules + 1 = c.rule_count.ensures ∙ ruled c.add_rule.new.self t State.Unsettled c.args.rule after in
     record {
-      called = taken m id (model t) (Call.Rule c.args.rule) (model c.add-rule.new.self) (Answer.Numbered c.rule-count.result) free (after, ap Answer.Numbered number);
+      called = taken m id (model t) (Call.Rule c.args.rule) (model c.add_rule.new.self) (Answer.Numbered c.rule_count.result) free (after, ap Answer.Numbered number);
       step = does free (after, ap Answer.Numbered number);
       number = refl;
       book = refl;

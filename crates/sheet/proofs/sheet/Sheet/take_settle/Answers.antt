@@ -20,18 +20,18 @@ use Rattle.sheet.proofs.Verdicts.{settle_barred, settle_cleared, turned_away, ta
 use Rattle.sheet.proofs.sheet.Sheet.take_settle.Goals as goal
 
 -- the sheet's state turns the call away
-pub returns-in-err-admit : goal.returns-in-err-admit
-returns-in-err-admit g c =
+pub returns-in_err-admit : goal.returns-in_err-admit
+returns-in_err-admit g c =
     let m : Meaning = meaning g.B.Book.top g.B.Book.arity g.B.Book.counts (g.B.Book.related c.args.self.now.book) in
     let id : ℕ = c.args.self.now.number in
     let t = c.args.self.now.tables in
-    let p = err_from_is_err_and c.from-residual.result c.from-residual.ensures.1 in
+    let p = err_from_is_err_and c.from_residual.result c.from_residual.ensures.1 in
     rw (p.1, p.2) (record {
-      called = turned_away m id (model t) (Call.Settle c.args.n) _ (settle_barred t m id c.args.n _ (sym c.in-err-admit.ensures));
+      called = turned_away m id (model t) (Call.Settle c.args.n) _ (settle_barred t m id c.args.n _ (sym c.in_err-admit.ensures));
       number = refl;
       book = refl;
       kept = record { rules = refl; tries = refl };
-      verdict = sym (settle_barred t m id c.args.n _ (sym c.in-err-admit.ensures));
+      verdict = sym (settle_barred t m id c.args.n _ (sym c.in_err-admit.ensures));
       refused = λ no_way. refl;
     })
 
@@ -41,7 +41,7 @@ returns g c =
     let m : Meaning = meaning g.B.Book.top g.B.Book.arity g.B.Book.counts (g.B.Book.related c.args.self.now.book) in
     let id : ℕ = c.args.self.now.number in
     let t = c.args.self.now.tables in
-    let free = settle_cleared t m id c.args.n _ (sym c.in-ok-admit.ensures) in
+    let free = settle_cleared t m id c.args.n _ (sym c.in_ok-admit.ensures) in
     record {
       called = call_lawful m id (model t) (Call.Settle c.args.n) (model c.settle.new.self) _ (λ sound. does free (c.settle.ensures.settled sound.core_sound));
       number = refl;

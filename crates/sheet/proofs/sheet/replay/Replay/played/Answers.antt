@@ -32,7 +32,7 @@ loop-call-preserved g c =
     let played = played_more m c.args.number (take i c.args.calls.now) (vec_items c.loop-call.answers) before after call c.play-answer.result old.2 called in (
       c.play-answer.ensures.number ∙ old.0,
       c.play-answer.ensures.book ∙ old.1,
-      subst₂ (λ (calls : List Call) (answers : List Answer). Played m c.args.number calls answers after) (sym (take_more c.args.calls.now i (Call.Line 0 0) c.loop-call-test.true)) (sym c.in-ok-push.ensures.items) played,
+      subst₂ (λ (calls : List Call) (answers : List Answer). Played m c.args.number calls answers after) (sym (take_more c.args.calls.now i (Call.Line 0 0) c.loop-call-test.true)) (sym c.in_ok-push.ensures.items) played,
     )
 
 -- all calls
