@@ -69,8 +69,8 @@ fn take_at<B: Book>(sheet: &mut Sheet<B>, item: Item, at: u8) -> Result<u32, Pla
 
 /// Takes the records of the chain, from its first index on.
 fn take_chain<B: Book>(sheet: &mut Sheet<B>, bytes: &[u8]) -> Result<(), LoadFault>
-    requires tables_value { model sheet.old.tables ≡ empty }
-    requires bytes_nonzero { 0 < records bytes.now }
+    requires fresh { model sheet.old.tables ≡ empty }
+    requires head { 0 < records bytes.now }
     ensures filled { Filled (meaning B.top B.arity B.counts (B.related sheet.old.book)) sheet.old.number (model sheet.new.tables) result (chain (meaning B.top B.arity B.counts (B.related sheet.old.book)) sheet.old.number bytes.now) }
     ensures number { sheet.new.number ≡ sheet.old.number }
     ensures book { sheet.new.book ≡ sheet.old.book }

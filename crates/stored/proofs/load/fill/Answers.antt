@@ -9,11 +9,11 @@ use Rattle.stored.proofs.Walks.{filled_fault, loads_length, loads_head, loads_ch
 use Rattle.stored.proofs.load.fill.Goals as goal
 
 -- the length
-pub returns-then-badly-long : goal.returns-then-badly-long
-returns-then-badly-long g c =
+pub returns-then-badly_long : goal.returns-then-badly_long
+returns-then-badly_long g c =
     let m : Meaning = meaning g.B.Book.top g.B.Book.arity g.B.Book.counts (g.B.Book.related c.args.sheet.now.book) in
     let bytes : List ℕ = c.args.bytes.now in
-    let bad : bad_length (length bytes) ≡ true = sym c.badly-long.ensures ∙ c.if-badly-long.true in
+    let bad : bad_length (length bytes) ≡ true = sym c.badly_long.ensures ∙ c.if-badly_long.true in
     record {
       filled = filled_fault m c.args.sheet.now.number (model c.args.sheet.now.tables) (Err Length) _ Length refl (loads_length m _ _ _ bytes bad);
       number = refl;
@@ -21,14 +21,14 @@ returns-then-badly-long g c =
     }
 
 -- the head
-pub returns-then-not-head-fits : goal.returns-then-not-head-fits
-returns-then-not-head-fits g c =
+pub returns-then-not-head_fits : goal.returns-then-not-head_fits
+returns-then-not-head_fits g c =
     let m : Meaning = meaning g.B.Book.top g.B.Book.arity g.B.Book.counts (g.B.Book.related c.args.sheet.now.book) in
     let bytes : List ℕ = c.args.bytes.now in
-    let good : bad_length (length bytes) ≡ false = sym c.badly-long.ensures ∙ c.if-badly-long.false in
+    let good : bad_length (length bytes) ≡ false = sym c.badly_long.ensures ∙ c.if-badly_long.false in
     let unfit : is_head g.B.Book.drive (g.B.Book.mode c.args.sheet.now.book) (record_at bytes 0) ≡ false =
-    ap₂ (λ b (r : List ℕ). is_head g.B.Book.drive (g.B.Book.mode b) r) (sym c.book.ensures) (sym c.record-at.ensures.record)
-    ∙ sym c.head-fits.ensures ∙ c.if-not-head-fits.true in
+    ap₂ (λ b (r : List ℕ). is_head g.B.Book.drive (g.B.Book.mode b) r) (sym c.book.ensures) (sym c.record_at.ensures.record)
+    ∙ sym c.head_fits.ensures ∙ c.if-not-head_fits.true in
     record {
       filled = filled_fault m c.args.sheet.now.number (model c.args.sheet.now.tables) (Err Head) _ Head refl (loads_head m _ _ _ bytes good unfit);
       number = refl;
@@ -41,12 +41,12 @@ returns g c =
     let m : Meaning = meaning g.B.Book.top g.B.Book.arity g.B.Book.counts (g.B.Book.related c.args.sheet.now.book) in
     let bytes : List ℕ = c.args.bytes.now in
     let id : ℕ = c.args.sheet.now.number in
-    let good : bad_length (length bytes) ≡ false = sym c.badly-long.ensures ∙ c.if-badly-long.false in
+    let good : bad_length (length bytes) ≡ false = sym c.badly_long.ensures ∙ c.if-badly_long.false in
     let fit : is_head g.B.Book.drive (g.B.Book.mode c.args.sheet.now.book) (record_at bytes 0) ≡ true =
-    ap₂ (λ b (r : List ℕ). is_head g.B.Book.drive (g.B.Book.mode b) r) (sym c.book.ensures) (sym c.record-at.ensures.record)
-    ∙ sym c.head-fits.ensures ∙ c.if-not-head-fits.false in
+    ap₂ (λ b (r : List ℕ). is_head g.B.Book.drive (g.B.Book.mode b) r) (sym c.book.ensures) (sym c.record_at.ensures.record)
+    ∙ sym c.head_fits.ensures ∙ c.if-not-head_fits.false in
     record {
-      filled = subst (Filled m id (model c.take-chain.new.sheet.tables) c.take-chain.result) (sym (loads_chain m id _ _ bytes good fit)) c.take-chain.ensures.filled;
-      number = c.take-chain.ensures.number;
-      book = c.take-chain.ensures.book;
+      filled = subst (Filled m id (model c.take_chain.new.sheet.tables) c.take_chain.result) (sym (loads_chain m id _ _ bytes good fit)) c.take_chain.ensures.filled;
+      number = c.take_chain.ensures.number;
+      book = c.take_chain.ensures.book;
     }

@@ -23,32 +23,32 @@ loop-at-init g c =
     let m : Meaning = meaning g.B.Book.top g.B.Book.arity g.B.Book.counts (g.B.Book.related c.args.sheet.now.book) in
     let id : ℕ = c.args.sheet.now.number in (
       [],
-      subst (Reached m id []) (sym c.requires.0) set_up,
-      ap₂ (λ (r : List ℕ) (s : Model). walk (step m id) c.args.bytes.now (records c.args.bytes.now - 1) (get_or r 1 0) (progress [] s)) c.record-at.ensures.record c.requires.0,
+      subst (Reached m id []) (sym c.requires.fresh) set_up,
+      ap₂ (λ (r : List ℕ) (s : Model). walk (step m id) c.args.bytes.now (records c.args.bytes.now - 1) (get_or r 1 0) (progress [] s)) c.record_at.ensures.record c.requires.fresh,
       refl,
       refl,
     )
 
 -- the record is not opened
-pub returns-in-err-item : goal.returns-in-err-item
-returns-in-err-item g c =
+pub returns-in_err-item : goal.returns-in_err-item
+returns-in_err-item g c =
     let m : Meaning = meaning g.B.Book.top g.B.Book.arity g.B.Book.counts (g.B.Book.related c.args.sheet.now.book) in
     let id : ℕ = c.args.sheet.now.number in
     let bytes : List ℕ = c.args.bytes.now in
     let inv = c.loop-at.invariant in
     let h : History = inv.0 in
     let s : Model = model c.loop-at.sheet.tables in
-    let p = err_from_is_err_and c.from-residual.result c.from-residual.ensures.1 in
+    let p = err_from_is_err_and c.from_residual.result c.from_residual.ensures.1 in
     record {
-      filled = filled_fault m id s c.from-residual.result (chain m id bytes) p.0 p.1
-          (sym inv.2 ∙ walk_closed (step m id) bytes c.loop-at.left c.loop-at.at (progress h s) p.0 c.loop-at-test.true (sym c.in-err-item.ensures ∙ ap Err (sym p.2)));
+      filled = filled_fault m id s c.from_residual.result (chain m id bytes) p.0 p.1
+          (sym inv.2 ∙ walk_closed (step m id) bytes c.loop-at.left c.loop-at.at (progress h s) p.0 c.loop-at-test.true (sym c.in_err-item.ensures ∙ ap Err (sym p.2)));
       number = inv.3;
       book = inv.4;
     }
 
 -- its call is turned away
-pub returns-in-err-take-at : goal.returns-in-err-take-at
-returns-in-err-take-at g c =
+pub returns-in_err-take_at : goal.returns-in_err-take_at
+returns-in_err-take_at g c =
     let m : Meaning = meaning g.B.Book.top g.B.Book.arity g.B.Book.counts (g.B.Book.related c.args.sheet.now.book) in
     let id : ℕ = c.args.sheet.now.number in
     let bytes : List ℕ = c.args.bytes.now in
@@ -57,18 +57,18 @@ returns-in-err-take-at g c =
     let s : Model = model c.loop-at.sheet.tables in
     let same : meaning g.B.Book.top g.B.Book.arity g.B.Book.counts (g.B.Book.related c.loop-at.sheet.book) ≡ m =
     ap (λ b. meaning g.B.Book.top g.B.Book.arity g.B.Book.counts (g.B.Book.related b)) inv.4 in
-    let p = err_from_is_err_and c.from-residual-in-err-take-at.result c.from-residual-in-err-take-at.ensures.1 in
-    let e = c.in-err-take-at.ensures in
-    let t : Model = model c.take-at.new.sheet.tables in
-    let i : Item = c.in-ok-item.item in
-    let why : Refusal = c.in-err-take-at.field-0.0.why in
+    let p = err_from_is_err_and c.from_residual-in_err-take_at.result c.from_residual-in_err-take_at.ensures.1 in
+    let e = c.in_err-take_at.ensures in
+    let t : Model = model c.take_at.new.sheet.tables in
+    let i : Item = c.in_ok-item.item in
+    let why : Refusal = c.in_err-take_at.field-0.0.why in
     let called : Called m id s (call_of i) t (Answer.Refused why) =
     subst₂ (λ (x : Meaning) (n : ℕ). Called x n s (call_of i) t (Answer.Refused why)) same inv.3 e.called in
     let go : Progress → Result Progress LoadFault = λ q. walk (step m id) bytes (c.loop-at.left - 1) (byte (record_at bytes c.loop-at.at) 1) q in
     record {
-      filled = filled_fault m id t c.from-residual-in-err-take-at.result (chain m id bytes) p.0 p.1
+      filled = filled_fault m id t c.from_residual-in_err-take_at.result (chain m id bytes) p.0 p.1
           (sym inv.2
-          ∙ walk_on (step m id) bytes c.loop-at.left c.loop-at.at (progress h s) i c.loop-at-test.true (sym c.in-ok-item.ensures)
+          ∙ walk_on (step m id) bytes c.loop-at.left c.loop-at.at (progress h s) i c.loop-at-test.true (sym c.in_ok-item.ensures)
           ∙ ap (on c.loop-at.at go) (step_refused m id h s i t why inv.1 called)
           ∙ ap (λ (k : ℕ). Err (Call why k)) (sym e.placed)
           ∙ ap Err (sym p.2));
@@ -87,19 +87,19 @@ loop-at-preserved g c =
     let s : Model = model c.loop-at.sheet.tables in
     let same : meaning g.B.Book.top g.B.Book.arity g.B.Book.counts (g.B.Book.related c.loop-at.sheet.book) ≡ m =
     ap (λ b. meaning g.B.Book.top g.B.Book.arity g.B.Book.counts (g.B.Book.related b)) inv.4 in
-    let e = c.in-ok-take-at.ensures in
-    let t : Model = model c.take-at.new.sheet.tables in
-    let i : Item = c.in-ok-item.item in
-    let k : ℕ = c.in-ok-take-at.field-0 in
+    let e = c.in_ok-take_at.ensures in
+    let t : Model = model c.take_at.new.sheet.tables in
+    let i : Item = c.in_ok-item.item in
+    let k : ℕ = c.in_ok-take_at.field-0 in
     let called : Called m id s (call_of i) t (Answer.Numbered k) =
     subst₂ (λ (x : Meaning) (n : ℕ). Called x n s (call_of i) t (Answer.Numbered k)) same inv.3 e.called in
     let more : History = entry (call_of i) (Answer.Numbered k) ∷ h in
     let go : Progress → Result Progress LoadFault = λ q. walk (step m id) bytes (c.loop-at.left - 1) (byte (record_at bytes c.loop-at.at) 1) q in (
       more,
       called.reached h inv.1,
-      ap (λ (r : List ℕ). walk (step m id) bytes (c.loop-at.left - 1) (get_or r 1 0) (progress more t)) c.record-at-in-loop-at.ensures.record
+      ap (λ (r : List ℕ). walk (step m id) bytes (c.loop-at.left - 1) (get_or r 1 0) (progress more t)) c.record_at-in-loop-at.ensures.record
           ∙ sym (ap (on c.loop-at.at go) (step_taken m id h s i t k inv.1 called))
-          ∙ sym (walk_on (step m id) bytes c.loop-at.left c.loop-at.at (progress h s) i c.loop-at-test.true (sym c.in-ok-item.ensures))
+          ∙ sym (walk_on (step m id) bytes c.loop-at.left c.loop-at.at (progress h s) i c.loop-at-test.true (sym c.in_ok-item.ensures))
           ∙ inv.2,
       e.number ∙ inv.3,
       e.book ∙ inv.4,

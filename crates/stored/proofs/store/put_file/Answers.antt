@@ -10,22 +10,22 @@ use Rattle.stored.proofs.store.put_file.Goals as goal
 -- the head is written
 pub loop-k-init : goal.loop-k-init
 loop-k-init c =
-    put_none c.put-record.new.out (items_of (map span c.args.lines.now) c.args.rules.now)
-    (let q : 8 ≤ length c.put-record.new.out = omega (arith, ap length c.put-record.ensures) in q)
+    put_none c.put_record.new.out (items_of (map span c.args.lines.now) c.args.rules.now)
+    (let q : 8 ≤ length c.put_record.new.out = omega (arith, ap length c.put_record.ensures) in q)
 
 -- one more item
 pub loop-k-preserved : goal.loop-k-preserved
 loop-k-preserved c =
     let xs : List Item = items_of (map span c.args.lines.now) c.args.rules.now in
-    let E : List ℕ = c.put-record.new.out in
+    let E : List ℕ = c.put_record.new.out in
     let k : ℕ = c.loop-k.k in
     let count : length xs ≡ length c.args.lines.now + length c.args.rules.now =
     items_length (map span c.args.lines.now) c.args.rules.now ∙ ap (λ (n : ℕ). n + length c.args.rules.now) (length-map c.args.lines.now span) in
     let less : k < length xs = omega (arith, count, c.loop-k-test.true) in
-    let written : c.record-of.result ≡ write (get_or xs k nothing) (next_index (k + 2) (length xs - (k + 1))) =
-    c.record-of.ensures ∙ ap₂ write c.item-at-item.ensures (c.index-if-in-loop-k.ensures ∙ ap (λ (n : ℕ). next_index (k + 2) (n - (k + 1))) (sym count)) in
-    subst (λ (out : List ℕ). Put E out xs (k + 1)) (sym c.put-record-in-loop-k.ensures)
-    (put_next E c.loop-k.out xs k c.record-of.result less written c.loop-k.invariant)
+    let written : c.record_of.result ≡ write (get_or xs k nothing) (next_index (k + 2) (length xs - (k + 1))) =
+    c.record_of.ensures ∙ ap₂ write c.item_at-item.ensures (c.index_if-in-loop-k.ensures ∙ ap (λ (n : ℕ). next_index (k + 2) (n - (k + 1))) (sym count)) in
+    subst (λ (out : List ℕ). Put E out xs (k + 1)) (sym c.put_record-in-loop-k.ensures)
+    (put_next E c.loop-k.out xs k c.record_of.result less written c.loop-k.invariant)
 
 -- all of them
 pub returns : goal.returns
@@ -35,8 +35,8 @@ returns c =
     items_length (map span c.args.lines.now) c.args.rules.now ∙ ap (λ (n : ℕ). n + length c.args.rules.now) (length-map c.args.lines.now span) in
     let k : ℕ = c.loop-k.k in
     let all : length xs ≤ k = omega (arith, count, c.loop-k-test.false) in
-    let began : c.put-record.new.out ≡ head c.args.drive c.args.mode (next_index 1 (length xs)) ++ drop 8 c.args.out.now =
-    c.put-record.ensures
-    ∙ ap (λ (first : ℕ). head c.args.drive c.args.mode first ++ drop 8 c.args.out.now) (c.index-if.ensures ∙ ap (next_index 1) (sym count)) in
+    let began : c.put_record.new.out ≡ head c.args.drive c.args.mode (next_index 1 (length xs)) ++ drop 8 c.args.out.now =
+    c.put_record.ensures
+    ∙ ap (λ (first : ℕ). head c.args.drive c.args.mode first ++ drop 8 c.args.out.now) (c.index_if.ensures ∙ ap (next_index 1) (sym count)) in
     put_all c.args.drive c.args.mode xs c.args.out.now c.loop-k.out k all
     (subst (λ (E : List ℕ). Put E c.loop-k.out xs k) began c.loop-k.invariant)

@@ -5,4 +5,4 @@ use Rattle.stored.proofs.store.put_record.Goals as goal
 -- the bytes before and after stay
 pub returns : goal.returns
 returns c =
-    ap₂ (λ (r u : List ℕ). take c.args.at c.args.out.now ++ (r ++ u)) c.copy-from-slice.ensures.after (put_mid c.args.at c.args.out.now)
+    ap₂ (λ (r u : List ℕ). take c.args.at c.args.out.now ++ (r ++ u)) c.copy_from_slice.ensures.after (put_mid c.args.at c.args.out.now)

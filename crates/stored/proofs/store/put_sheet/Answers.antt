@@ -14,13 +14,13 @@ use Rattle.stored.proofs.Rounds.{back_from}
 use Rattle.stored.proofs.store.put_sheet.Goals as goal
 
 -- the buffer has room, and a sheet has few lines and rules
-pub put-file-requires : goal.put-file-requires
-put-file-requires g c =
+pub put_file-requires : goal.put_file-requires
+put_file-requires g c =
     let t = c.args.sheet.now.tables in
-    let lines : length c.all-windows-windows.result.now ≡ length (model t).core.windows =
-    sym (length-map c.all-windows-windows.result.now span) ∙ ap length c.all-windows-windows.ensures in
-    let rules : length c.all-rules-rules.result.now ≡ length (model t).core.rules = ap length c.all-rules-rules.ensures in
-    (omega (arith, lines, rules, c.requires), omega (arith, lines, rules, lines_count t, rules_count t, t.lines.few, t.rules.few))
+    let lines : length c.all_windows-windows.result.now ≡ length (model t).core.windows =
+    sym (length-map c.all_windows-windows.result.now span) ∙ ap length c.all_windows-windows.ensures in
+    let rules : length c.all_rules-rules.result.now ≡ length (model t).core.rules = ap length c.all_rules-rules.ensures in
+    record { rules_in_bounds = omega (arith, lines, rules, c.requires); rules_len_bound = omega (arith, lines, rules, lines_count t, rules_count t, t.lines.few, t.rules.few) }
 
 -- what is written, and that it comes back
 pub returns : goal.returns
@@ -30,16 +30,16 @@ returns g c =
     let drive : ℕ = g.B.Book.drive in
     let mode : ℕ = g.B.Book.mode c.args.sheet.now.book in
     let old : List ℕ = c.args.out.now in
-    let same-drive : c.drive-number.result ≡ drive = c.drive-number.ensures in
-    let same_mode : c.mode-number.result ≡ mode = c.mode-number.ensures ∙ ap (λ b. g.B.Book.mode b) c.book.ensures in
-    let same-windows : map span c.all-windows-windows.result.now ≡ held.windows = c.all-windows-windows.ensures in
-    let same_rules : c.all-rules-rules.result.now ≡ held.rules = c.all-rules-rules.ensures in
-    let written : c.put-file.new.out ≡ over (file drive mode (items held)) old =
-    c.put-file.ensures ∙ (λ i. over (file (same-drive i) (same_mode i) (items_of (same-windows i) (same_rules i))) old) in
+    let same-drive : c.drive_number.result ≡ drive = c.drive_number.ensures in
+    let same_mode : c.mode_number.result ≡ mode = c.mode_number.ensures ∙ ap (λ b. g.B.Book.mode b) c.book.ensures in
+    let same-windows : map span c.all_windows-windows.result.now ≡ held.windows = c.all_windows-windows.ensures in
+    let same_rules : c.all_rules-rules.result.now ≡ held.rules = c.all_rules-rules.ensures in
+    let written : c.put_file.new.out ≡ over (file drive mode (items held)) old =
+    c.put_file.ensures ∙ (λ i. over (file (same-drive i) (same_mode i) (items_of (same-windows i) (same_rules i))) old) in
     record {
-      size = c.file-size.ensures;
+      size = c.file_size.ensures;
       file = written;
       back = λ h reached number.
-          subst (λ (n : ℕ). ComesBack m number drive mode held (take n c.put-file.new.out)) (sym c.file-size.ensures)
-          (back_from m number drive mode held old c.put-file.new.out g.met.B.Book.small g.met.B.Book.within (all_sound reached).core_sound written);
+          subst (λ (n : ℕ). ComesBack m number drive mode held (take n c.put_file.new.out)) (sym c.file_size.ensures)
+          (back_from m number drive mode held old c.put_file.new.out g.met.B.Book.small g.met.B.Book.within (all_sound reached).core_sound written);
     }
