@@ -3,4 +3,4 @@ use Rattle.report.proofs.Adding.{adds_then, begins}
 use Rattle.report.proofs.put.put_answer.Goals as goal
 
 pub returns : goal.returns
-returns c = begins (adds_then (omega arith) c.put-row-end.ensures.adds c.put-rows.ensures.adds) (omega arith)
+returns c = begins (adds_then (omega arith) c.put_row-end.ensures.adds c.put_rows.ensures.adds) (omega arith)

@@ -11,21 +11,21 @@ loop-window-init c = (
   omega arith,
 )
 
-pub overflow-add-number : goal.overflow-add-number
-overflow-add-number c = omega (arith, c.loop-window.invariant, printable_few c.args.windows.now c.requires.printable)
+pub overflow_add-number : goal.overflow_add-number
+overflow_add-number c = omega (arith, c.loop-window.invariant, printable_few c.args.windows.now c.requires.printable)
 
-pub put-row-end-requires : goal.put-row-end-requires
-put-row-end-requires c = omega (arith, c.loop-window.invariant, printable_few c.args.windows.now c.requires.printable)
+pub put_row-end-requires : goal.put_row-end-requires
+put_row-end-requires c = omega (arith, c.loop-window.invariant, printable_few c.args.windows.now c.requires.printable)
 
 pub loop-window-preserved : goal.loop-window-preserved
 loop-window-preserved c =
     let few : length c.args.windows.now ≤ 64 = printable_few c.args.windows.now c.requires.printable in
     let small = printable_at c.args.windows.now c.loop-window.window-index c.window-item.result (omega arith) c.window-item.is c.requires.printable in
-    let short : c.put-row-end.result ≤ c.loop-window.end + 15 =
+    let short : c.put_row-end.result ≤ c.loop-window.end + 15 =
     line_short c.loop-window.number c.lo.result c.hi.result (omega (arith, c.loop-window.invariant)) (omega (arith, small)) (omega (arith, small))
-    c.put-row-end.ensures.adds in (
+    c.put_row-end.ensures.adds in (
       line_added c.args.windows.now c.loop-window.window-index c.window-item.result c.loop-window.number c.lo.result c.hi.result
-          (omega arith) (omega arith) c.window-item.is c.loop-window.invariant.2 c.lo.ensures c.hi.ensures c.loop-window.invariant.0 c.put-row-end.ensures.adds,
+          (omega arith) (omega arith) c.window-item.is c.loop-window.invariant.2 c.lo.ensures c.hi.ensures c.loop-window.invariant.0 c.put_row-end.ensures.adds,
       omega (arith, c.loop-window.invariant),
       omega (arith, c.loop-window.invariant),
     )

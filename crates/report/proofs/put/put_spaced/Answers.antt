@@ -3,4 +3,4 @@ use Rattle.report.proofs.Adding.{adds_then}
 use Rattle.report.proofs.put.put_spaced.Goals as goal
 
 pub returns : goal.returns
-returns c = record { adds = adds_then (omega arith) c.put-byte-next.ensures c.put-word.ensures.adds; short = omega (arith, c.put-byte-next.ensures.ends) }
+returns c = record { adds = adds_then (omega arith) c.put_byte-next.ensures c.put_word.ensures.adds; short = omega (arith, c.put_byte-next.ensures.ends) }

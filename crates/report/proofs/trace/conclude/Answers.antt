@@ -12,11 +12,11 @@ returns-in-Some g c drive mode bytes loaded =
 -- the settle answered
 pub returns-in-Ok : goal.returns-in-Ok
 returns-in-Ok g c drive mode bytes loaded =
-    conclude_settled _ c.args.loaded.now.sheet.number (model c.args.loaded.now.sheet.tables) (model c.settle-loaded.new.sheet.tables)
+    conclude_settled _ c.args.loaded.now.sheet.number (model c.args.loaded.now.sheet.tables) (model c.settle_loaded.new.sheet.tables)
     c.args.loaded.now.fault c.in-Ok.answer _ _ g.met.B.Book.small c.in-None.is refl c.in-Ok.ensures loaded
 
 -- it is never refused
 pub returns-in-Err : goal.returns-in-Err
 returns-in-Err g c drive mode bytes loaded =
-    conclude_never _ c.args.loaded.now.sheet.number (model c.args.loaded.now.sheet.tables) (model c.settle-loaded.new.sheet.tables)
+    conclude_never _ c.args.loaded.now.sheet.number (model c.args.loaded.now.sheet.tables) (model c.settle_loaded.new.sheet.tables)
     c.args.loaded.now.fault c.in-Err.why _ (loads_unsettled _ c.args.loaded.now.sheet.number drive mode bytes) c.in-None.is c.in-Err.ensures loaded

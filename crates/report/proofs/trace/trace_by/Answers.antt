@@ -20,5 +20,5 @@ returns g c =
     let by_number = subst (λ (n : ℕ). Concludes m n (model c.load-loaded.result.sheet.tables) c.load-loaded.result.fault c.conclude-outcome.result vs) number by-book in
     let concluded : Concluded m (loads m 0 g.B.Book.drive (g.B.Book.mode c.args.book) c.args.input.now) c.conclude-outcome.result vs =
     by_number g.B.Book.drive (g.B.Book.mode c.args.book) c.args.input.now c.load-loaded.ensures.loaded in
-    report_concluded m _ c.conclude-outcome.result (map span c.all-windows.result.now) vs c.args.output.now _ _ concluded c.all-windows.ensures c.requires
-    c.write-report.ensures.bytes c.write-report.ensures.count c.write-report.ensures.short
+    report_concluded m _ c.conclude-outcome.result (map span c.all_windows.result.now) vs c.args.output.now _ _ concluded c.all_windows.ensures c.requires
+    c.write_report.ensures.bytes c.write_report.ensures.count c.write_report.ensures.short

@@ -7,17 +7,17 @@ use Rattle.report.proofs.trace.trace_in.Goals as goal
 pub returns-in-Half : goal.returns-in-Half
 returns-in-Half c =
     reported (omega arith)
-    (reported_more (λ o vs is. by_half c.in-Half.book.mode (omega (arith, c.in-Half.ensures)) (omega (arith, c.in-Half.ensures)) is) c.trace-by.ensures)
+    (reported_more (λ o vs is. by_half c.in-Half.book.mode (omega (arith, c.in-Half.ensures)) (omega (arith, c.in-Half.ensures)) is) c.trace_by.ensures)
 
 -- the counter book
 pub returns-in-Counter : goal.returns-in-Counter
 returns-in-Counter c =
     reported (omega arith)
-    (reported_more (λ o vs is. by_counter (omega (arith, c.in-Counter.ensures)) (omega (arith, c.in-Counter.ensures)) is) c.trace-by-in-Counter.ensures)
+    (reported_more (λ o vs is. by_counter (omega (arith, c.in-Counter.ensures)) (omega (arith, c.in-Counter.ensures)) is) c.trace_by-in-Counter.ensures)
 
 -- neither
 pub returns-in-NoBook : goal.returns-in-NoBook
 returns-in-NoBook c =
     none_traced (omega arith)
     (λ e. omega (arith, c.in-NoBook.ensures.0 (omega (arith, e)))) (λ e. omega (arith, c.in-NoBook.ensures.1 (omega (arith, e))))
-    c.trace-by-none.ensures
+    c.trace_by_none.ensures
