@@ -17,7 +17,7 @@ use Rattle.stored.specs.declared.fault.LoadFault.TheVariants.{Length, Head, Chai
 use Rattle.stored.specs.declared.fault.Placed.{Placed}
 use Rattle.stored.specs.declared.item.Item.{Item}
 use Rattle.stored.specs.Records.{records, record_at, byte, is_head, read, call_of}
-use Rattle.stored.specs.Loads.{LedTo, Outcome, Progress, progress, with_item, item_number, judged, step, on, on_read, walk, found, opened, told, placed_at, Filled, bad_length, chain, loads}
+use Rattle.stored.specs.Loads.{LedTo, Outcome, UnderLaw, Progress, progress, with_item, item_number, judged, step, on, on_read, walk, found, opened, told, placed_at, Filled, bad_length, chain, loads}
 
 -- The chain ends at index 0.
 pub walk_done : {S : Type 0} (take : S → Item → Result S Refusal) (bytes : List ℕ) (left at : ℕ) (s : S) → at ≡ 0 → walk take bytes left at s ≡ Ok s
@@ -124,14 +124,19 @@ filled_fault m id s r o f p q = subst₂ (Filled m id s) (sym p) (sym q) refl
 pub filled_whole :
     (m : Meaning) (id : ℕ) (s : Model) (h : History) (o : Result Progress LoadFault) →
     Reached m id h s → o ≡ Ok (progress h s) → Filled m id s (Ok tt) o
-filled_whole m id s h o reached q = subst (Filled m id s (Ok tt)) (sym q) (refl, reached, lawful m id h s reached)
+filled_whole m id s h o reached q = subst (Filled m id s (Ok tt)) (sym q) (refl, reached)
 
 -- A load leaves a sheet that some history leads to.
 pub load_led : (m : Meaning) (id : ℕ) (s : Model) (fault : Option LoadFault) (o : Result Progress LoadFault) → Outcome m id s fault o → LedTo m id s
-load_led m id s fault (Ok p) out = record { history = p.history; reached = out.2; law = out.3 }
+load_led m id s fault (Ok p) out = record { history = p.history; reached = out.2; law = lawful m id p.history s out.2 }
 load_led m id s fault (Err f) out =
     let reached : Reached m id [] s = subst (Reached m id []) (sym out.1) set_up in
     record { history = []; reached = reached; law = lawful m id [] s reached }
+
+-- The law holds of a sheet that was filled, with the calls taken as its history.
+pub law_filled : (m : Meaning) (id : ℕ) (s : Model) (u : Unit {0}) (o : Result Progress LoadFault) → Filled m id s (Ok u) o → UnderLaw m id s o
+law_filled m id s u (Ok p) filled = lawful m id p.history s filled.1
+law_filled m id s u (Err f) filled = absurd filled
 
 -- The call of an item that is a rule.
 pub called_rule :

@@ -81,10 +81,15 @@ loads m id drive mode bytes =
     cond (bad_length (length bytes)) (Err Length) (cond (is_head drive mode (record_at bytes 0)) (chain m id bytes) (Err Head))
 
 -- The sheet s and the fault are those of a load with this outcome: a fault with a fresh sheet, or none, with the sheet that
--- the calls taken led to, all of them accepted, and the law of that history.
+-- the calls taken led to, all of them accepted.
 abbrev pub Outcome : Meaning → ℕ → Model → Option LoadFault → Result Progress LoadFault → Type 0
-Outcome m id s fault (Ok p) = (fault ≡ None) × (s ≡ p.sheet) × Reached m id p.history s × Law m id p.history s
+Outcome m id s fault (Ok p) = (fault ≡ None) × (s ≡ p.sheet) × Reached m id p.history s
 Outcome m id s fault (Err f) = (fault ≡ Some f) × (s ≡ empty)
+
+-- The law holds of the sheet s that a load with this outcome leaves, with the calls taken as its history.
+abbrev pub UnderLaw : Meaning → ℕ → Model → Result Progress LoadFault → Type 0
+UnderLaw m id s (Ok p) = Law m id p.history s
+UnderLaw m id s (Err f) = Unit {0}
 
 -- Some history leads to the sheet s, and the law holds of both.
 pub record LedTo (m : Meaning) (id : ℕ) (s : Model) : Type 0 where
@@ -112,7 +117,7 @@ placed_at at (Err p) = p.at ≡ at
 
 -- The sheet s is what a filling with this outcome leads to.
 abbrev pub Filled : Meaning → ℕ → Model → Result (Unit {0}) LoadFault → Result Progress LoadFault → Type 0
-Filled m id s (Ok u) (Ok p) = (s ≡ p.sheet) × Reached m id p.history s × Law m id p.history s
+Filled m id s (Ok u) (Ok p) = (s ≡ p.sheet) × Reached m id p.history s
 Filled m id s (Ok u) (Err f) = ⊥
 Filled m id s (Err e) (Ok p) = ⊥
 Filled m id s (Err e) (Err f) = e ≡ f

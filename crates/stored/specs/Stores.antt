@@ -73,14 +73,21 @@ pub record ComesBack (m : Meaning) (id drive mode : ℕ) (c : Core) (bytes : Lis
   pub loaded : loads m id drive mode bytes ≡ Ok reached
   pub same : reached.sheet ≡ record { core = unsettled c; saved = [] }
 
--- What was stored of the sheet s, whose number is id, comes back from the first n bytes of the buffer, under any number, for
--- every sheet that a history leads to.
+-- What was stored comes back from the first n bytes of the buffer, for every sheet that a history leads to.
 abbrev pub Back : Meaning → (id drive mode : ℕ) → Model → List ℕ → ℕ → Type 0
-Back m id drive mode s out n = (h : History) → Reached m id h s → (number : ℕ) → ComesBack m number drive mode s.core (take n out)
+Back m id drive mode s out n = (h : History) → Reached m id h s → ComesBack m id drive mode s.core (take n out)
 
 abbrev pub RoundTrip : Meaning → (id drive mode : ℕ) → Model → List ℕ → Result ℕ StoreFault → Type 0
 RoundTrip m id drive mode s out (Ok n) = Back m id drive mode s out n
 RoundTrip m id drive mode s out (Err why) = Unit {0}
+
+-- The same under any number.
+abbrev pub BackUnderAny : Meaning → (id drive mode : ℕ) → Model → List ℕ → ℕ → Type 0
+BackUnderAny m id drive mode s out n = (h : History) → Reached m id h s → (number : ℕ) → ComesBack m number drive mode s.core (take n out)
+
+abbrev pub RoundTripUnderAny : Meaning → (id drive mode : ℕ) → Model → List ℕ → Result ℕ StoreFault → Type 0
+RoundTripUnderAny m id drive mode s out (Ok n) = BackUnderAny m id drive mode s out n
+RoundTripUnderAny m id drive mode s out (Err why) = Unit {0}
 
 -- A record written at a place of the buffer.
 abbrev pub put_at : ℕ → List ℕ → List ℕ → List ℕ

@@ -1,11 +1,11 @@
 //! Load: a sheet set up from a number, a book and bytes.
-ghost use Rattle.std.specs.Prelude.{◌≡◌, ◌<◌, ◌≤◌, length};
+ghost use Rattle.std.specs.Prelude.{◌≡◌, ◌<◌, ◌≤◌, length, IfOk};
 ghost use Rattle.law.specs.Law.{Called};
 ghost use Rattle.law.specs.Sheets.{empty};
 ghost use Rattle.sheet.specs.Answers.{numbered};
 ghost use Rattle.runs.specs.Rounds.{meaning};
 ghost use Rattle.tables.specs.Views.{model};
-ghost use Rattle.stored.specs.Loads.{Filled, Outcome, bad_length, chain, loads, opened, placed_at, told};
+ghost use Rattle.stored.specs.Loads.{Filled, Outcome, UnderLaw, bad_length, chain, loads, opened, placed_at, told};
 ghost use Rattle.stored.specs.Records.{byte, call_of, record_at, records};
 
 use crate::fault::{LoadFault, Placed};
@@ -13,6 +13,7 @@ use crate::item::{Item, head_fits, read_item, record_at};
 use books::book::Book;
 use law::calls::Refusal;
 use sheet::sheet::Sheet;
+use std::alloc::{AllocError, Global};
 use tables::room::Room;
 
 /// What a load leaves: without a fault the sheet that was stored; with one, a fresh sheet.
@@ -102,19 +103,36 @@ fn fill<B: Book>(sheet: &mut Sheet<B>, bytes: &[u8]) -> Result<(), LoadFault>
     take_chain(sheet, bytes)
 }
 
-/// Sets a sheet up from stored bytes, in this room, with this number and this book. A refused load leaves a fresh sheet.
-pub fn load<B: Book>(room: Room, number: u32, book: B, bytes: &[u8]) -> Loaded<B>
+/// Sets a sheet up from stored bytes, with this number and this book. A refused load leaves a fresh sheet. Memory is wanted
+/// for setting sheets up alone.
+pub fn load<B: Book + Copy + Drop>(
+    heap: Global,
+    number: u32,
+    book: B,
+    bytes: &[u8],
+) -> Result<Loaded<B>, AllocError>
+    ensures loaded { IfOk result (λ l. Outcome (meaning B.top B.arity B.counts (B.related book)) number (model l.sheet.tables) l.fault (loads (meaning B.top B.arity B.counts (B.related book)) number B.drive (B.mode book) bytes.now)) }
+    ensures number { IfOk result (λ l. l.sheet.number ≡ number) }
+    ensures book { IfOk result (λ l. l.sheet.book ≡ book) }
+{
+    let room = Room::reserve(heap)?;
+    Ok(load_in(room, number, book, bytes))
+}
+
+/// The same in room that was reserved for the sheet. The law holds of the sheet, with the lines and rules taken as its calls.
+pub fn load_in<B: Book>(room: Room, number: u32, book: B, bytes: &[u8]) -> Loaded<B>
     ensures loaded { Outcome (meaning B.top B.arity B.counts (B.related book)) number (model result.sheet.tables) result.fault (loads (meaning B.top B.arity B.counts (B.related book)) number B.drive (B.mode book) bytes.now) }
+    ensures law { UnderLaw (meaning B.top B.arity B.counts (B.related book)) number (model result.sheet.tables) (loads (meaning B.top B.arity B.counts (B.related book)) number B.drive (B.mode book) bytes.now) }
     ensures number { result.sheet.number ≡ number }
     ensures book { result.sheet.book ≡ book }
 {
-    let mut sheet = Sheet::new(room, number, book);
+    let mut sheet = Sheet::in_room(room, number, book);
     match fill(&mut sheet, bytes) {
         Ok(()) => Loaded { sheet, fault: None },
         Err(fault) => {
             let (room, book) = sheet.into_parts();
             Loaded {
-                sheet: Sheet::new(room, number, book),
+                sheet: Sheet::in_room(room, number, book),
                 fault: Some(fault),
             }
         }

@@ -8,14 +8,57 @@ ghost use Rattle.stored.specs.Stores.{ComesBack, SameAgain, buffer, fault_of, st
 ghost use Rattle.tables.specs.Views.{model};
 
 use crate::fault::StoreFault;
-use crate::load::{Loaded, load};
+use crate::load::{Loaded, load, load_in};
 use crate::store::store;
 use books::book::Book;
 use sheet::sheet::Sheet;
+use std::alloc::{AllocError, Global};
 use tables::room::Room;
 
-/// Loads what was stored of a sheet, with this number and the sheet's book.
-fn load_again<B: Book + Copy>(room: Room, number: u32, sheet: &Sheet<B>, bytes: &[u8]) -> Loaded<B>
+/// Loads what was stored of a sheet, with its number and its book.
+fn load_again<B: Book + Copy + Drop>(
+    heap: Global,
+    sheet: &Sheet<B>,
+    bytes: &[u8],
+) -> Result<Loaded<B>, AllocError>
+    requires { (h : History) → Reached (meaning B.top B.arity B.counts (B.related sheet.now.book)) sheet.now.number h (model sheet.now.tables)
+        → ComesBack (meaning B.top B.arity B.counts (B.related sheet.now.book)) sheet.now.number B.drive (B.mode sheet.now.book) (model sheet.now.tables).core bytes.now }
+    ensures same { IfOk result (λ l. SameAgain (meaning B.top B.arity B.counts (B.related sheet.now.book)) sheet.now.number (model sheet.now.tables) (model l.sheet.tables) l.fault) }
+    ensures number { IfOk result (λ l. l.sheet.number ≡ sheet.now.number) }
+    ensures book { IfOk result (λ l. l.sheet.book ≡ sheet.now.book) }
+{
+    load(heap, sheet.number(), *sheet.book(), bytes)
+}
+
+/// Stores a sheet into the buffer, and loads it back with the same number and book: the same lines, with their windows as they
+/// are now, and the same rules, unsettled, whatever calls led to the sheet.
+pub fn reload<B: Book + Copy + Drop>(
+    heap: Global,
+    sheet: &Sheet<B>,
+    out: &mut [u8],
+) -> Result<Result<Loaded<B>, StoreFault>, AllocError>
+    ensures same { IfOk result (λ x. IfOk x (λ l. SameAgain (meaning B.top B.arity B.counts (B.related sheet.now.book)) sheet.now.number (model sheet.now.tables) (model l.sheet.tables) l.fault)) }
+    ensures number { IfOk result (λ x. IfOk x (λ l. l.sheet.number ≡ sheet.now.number)) }
+    ensures book { IfOk result (λ x. IfOk x (λ l. l.sheet.book ≡ sheet.now.book)) }
+    ensures fault { IfOk result (λ x. fault_of x ≡ fault_of (stores (model sheet.now.tables) (length out.old))) }
+    ensures buffer { out.new ≡ buffer B.drive (B.mode sheet.now.book) (model sheet.now.tables) out.old (stores (model sheet.now.tables) (length out.old)) }
+{
+    match store(sheet, out) {
+        Err(why) => Ok(Err(why)),
+        Ok(n) => {
+            let loaded = load_again(heap, sheet, &out[..n])?;
+            Ok(Ok(loaded))
+        }
+    }
+}
+
+/// Loads what was stored of a sheet, with this number and the sheet's book, in this room.
+fn load_again_in<B: Book + Copy>(
+    room: Room,
+    number: u32,
+    sheet: &Sheet<B>,
+    bytes: &[u8],
+) -> Loaded<B>
     requires { (h : History) → Reached (meaning B.top B.arity B.counts (B.related sheet.now.book)) sheet.now.number h (model sheet.now.tables)
         → ComesBack (meaning B.top B.arity B.counts (B.related sheet.now.book)) number B.drive (B.mode sheet.now.book) (model sheet.now.tables).core bytes.now }
     ensures same { SameAgain (meaning B.top B.arity B.counts (B.related sheet.now.book)) sheet.now.number (model sheet.now.tables) (model result.sheet.tables) result.fault }
@@ -23,13 +66,13 @@ fn load_again<B: Book + Copy>(room: Room, number: u32, sheet: &Sheet<B>, bytes: 
     ensures number { result.sheet.number ≡ number }
     ensures book { result.sheet.book ≡ sheet.now.book }
 {
-    load(room, number, *sheet.book(), bytes)
+    load_in(room, number, *sheet.book(), bytes)
 }
 
 /// Stores a sheet into the buffer, and loads it back in this room, with this number and the same book: the same lines, with
 /// their windows as they are now, and the same rules, unsettled, whatever calls led to the sheet. A list of calls leads to the
 /// new sheet too, and the law holds of it.
-pub fn reload<B: Book + Copy>(
+pub fn reload_in<B: Book + Copy>(
     room: Room,
     number: u32,
     sheet: &Sheet<B>,
@@ -43,5 +86,5 @@ pub fn reload<B: Book + Copy>(
     ensures buffer { out.new ≡ buffer B.drive (B.mode sheet.now.book) (model sheet.now.tables) out.old (stores (model sheet.now.tables) (length out.old)) }
 {
     let n = store(sheet, out)?;
-    Ok(load_again(room, number, sheet, &out[..n]))
+    Ok(load_again_in(room, number, sheet, &out[..n]))
 }

@@ -4,7 +4,7 @@ ghost use Rattle.law.specs.Table.{is_barren};
 ghost use Rattle.runs.specs.Rounds.{meaning};
 ghost use Rattle.tables.specs.Views.{model};
 ghost use Rattle.stored.specs.Records.{head, high, low, write};
-ghost use Rattle.stored.specs.Stores.{Back, RoundTrip, buffer, file, items, items_of, line_item, next_index, nothing, over, put_at, size, stores};
+ghost use Rattle.stored.specs.Stores.{Back, BackUnderAny, RoundTrip, RoundTripUnderAny, buffer, file, items, items_of, line_item, next_index, nothing, over, put_at, size, stores};
 ghost use Rattle.windows.specs.Windows.{span};
 
 use crate::fault::StoreFault;
@@ -96,8 +96,8 @@ fn put_record(out: &mut [u8], at: usize, bytes: [u8; 8])
 
 /// Writes the whole file.
 fn put_file(out: &mut [u8], drive: u8, mode: u8, lines: &[Window], rules: &[Rule])
-    requires rules_in_bounds { 8 * (1 + (length lines.now + length rules.now)) ≤ length out.old }
-    requires rules_len_bound { length lines.now + length rules.now < 256 }
+    requires room { 8 * (1 + (length lines.now + length rules.now)) ≤ length out.old }
+    requires few { length lines.now + length rules.now < 256 }
     ensures { out.new ≡ over (file drive mode (items_of (map span lines.now) rules.now)) out.old }
 {
     let count = lines.len() + rules.len();
@@ -140,6 +140,7 @@ fn put_sheet<B: Book>(sheet: &Sheet<B>, out: &mut [u8]) -> usize
     ensures size { result ≡ size (model sheet.now.tables).core }
     ensures file { out.new ≡ over (file B.drive (B.mode sheet.now.book) (items (model sheet.now.tables).core)) out.old }
     ensures back { Back (meaning B.top B.arity B.counts (B.related sheet.now.book)) sheet.now.number B.drive (B.mode sheet.now.book) (model sheet.now.tables) out.new result }
+    ensures any { BackUnderAny (meaning B.top B.arity B.counts (B.related sheet.now.book)) sheet.now.number B.drive (B.mode sheet.now.book) (model sheet.now.tables) out.new result }
 {
     let windows = sheet.all_windows();
     let rules = sheet.all_rules();
@@ -159,6 +160,7 @@ pub fn store<B: Book>(sheet: &Sheet<B>, out: &mut [u8]) -> Result<usize, StoreFa
     ensures answer { result ≡ stores (model sheet.now.tables) (length out.old) }
     ensures buffer { out.new ≡ buffer B.drive (B.mode sheet.now.book) (model sheet.now.tables) out.old result }
     ensures back { RoundTrip (meaning B.top B.arity B.counts (B.related sheet.now.book)) sheet.now.number B.drive (B.mode sheet.now.book) (model sheet.now.tables) out.new result }
+    ensures any { RoundTripUnderAny (meaning B.top B.arity B.counts (B.related sheet.now.book)) sheet.now.number B.drive (B.mode sheet.now.book) (model sheet.now.tables) out.new result }
 {
     if 0 < sheet.tries() {
         return Err(StoreFault::TryOpen);

@@ -1,5 +1,5 @@
 //! Setting a sheet up, and reading it, which changes nothing.
-ghost use Rattle.std.specs.Prelude.{◌≡◌, ◌+◌, ◌-◌, [], map, length, vec_len};
+ghost use Rattle.std.specs.Prelude.{◌≡◌, ◌+◌, ◌-◌, [], map, length, vec_len, IfOk};
 ghost use Rattle.law.specs.Law.{Law};
 ghost use Rattle.law.specs.Sheets.{empty};
 ghost use Rattle.law.specs.Steps.{Reached};
@@ -12,24 +12,38 @@ ghost use Rattle.windows.specs.Windows.{span};
 use super::Sheet;
 use books::book::Book;
 use law::calls::{Refusal, Rule, State};
+use std::alloc::{AllocError, Global};
 use tables::room::Room;
 use tables::tables::Tables;
 use windows::window::Window;
 
-impl<B: Book> Sheet<B> {
-    /// An empty sheet of this number, unsettled, in the room reserved for it.
-    pub fn new(room: Room, number: u32, book: B) -> Sheet<B>
-        ensures empty { model result.tables ≡ empty }
-        ensures number { result.number ≡ number }
-        ensures book { result.book ≡ book }
-        ensures reached { Reached (meaning B.top B.arity B.counts (B.related book)) number [] (model result.tables) }
-        ensures law { Law (meaning B.top B.arity B.counts (B.related book)) number [] (model result.tables) }
+impl<B: Book + Drop> Sheet<B> {
+    /// An empty sheet of this number, unsettled. The room for 64 lines, 128 rules and 8 tries is reserved here, so that no
+    /// later call can want memory.
+    pub fn new(heap: Global, number: u32, book: B) -> Result<Sheet<B>, AllocError>
+        ensures empty { IfOk result (λ s. model s.tables ≡ empty) }
+        ensures number { IfOk result (λ s. s.number ≡ number) }
+        ensures book { IfOk result (λ s. s.book ≡ book) }
+        ensures reached { IfOk result (λ s. Reached (meaning B.top B.arity B.counts (B.related book)) number [] (model s.tables)) }
     {
-        Sheet::set_up(room, number, book)
+        Sheet::set_up(heap, number, book)
     }
 
     /// The same: the empty list of calls leads to the empty sheet.
-    fn set_up(room: Room, number: u32, book: B) -> Sheet<B>
+    fn set_up(heap: Global, number: u32, book: B) -> Result<Sheet<B>, AllocError>
+        ensures empty { IfOk result (λ s. model s.tables ≡ empty) }
+        ensures number { IfOk result (λ s. s.number ≡ number) }
+        ensures book { IfOk result (λ s. s.book ≡ book) }
+        ensures reached { IfOk result (λ s. Reached (meaning B.top B.arity B.counts (B.related book)) number [] (model s.tables)) }
+    {
+        let room = Room::reserve(heap)?;
+        Ok(Sheet::in_room(room, number, book))
+    }
+}
+
+impl<B: Book> Sheet<B> {
+    /// An empty sheet of this number, unsettled, in the room reserved for it.
+    pub fn in_room(room: Room, number: u32, book: B) -> Sheet<B>
         ensures empty { model result.tables ≡ empty }
         ensures number { result.number ≡ number }
         ensures book { result.book ≡ book }

@@ -10,7 +10,6 @@ use books::book::Book;
 use law::calls::{Answer, Call, Refusal};
 use runs::settled::Settled;
 use std::alloc::{AllocError, Global};
-use tables::room::Room;
 
 /// A sheet that calls were played on, and what each answered.
 #[derive(Drop)]
@@ -117,7 +116,7 @@ impl<B: Book + Drop> Replay<B> {
         ensures number { IfOk result (λ p. p.sheet.number ≡ number) }
         ensures book { IfOk result (λ p. p.sheet.book ≡ book) }
     {
-        let mut sheet = Sheet::new(Room::reserve(heap)?, number, book);
+        let mut sheet = Sheet::new(heap, number, book)?;
         let mut answers = Vec::new(heap);
         for call in calls {
             let answer = sheet.play(*call);

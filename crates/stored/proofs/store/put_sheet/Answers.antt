@@ -9,7 +9,7 @@ use Rattle.law.proofs.Sheets.{all_sound}
 use Rattle.runs.specs.Rounds.{meaning}
 use Rattle.tables.specs.Views.{core, model}
 use Rattle.tables.proofs.Counts.{lines_count, rules_count}
-use Rattle.stored.specs.Stores.{ComesBack, items, items_of, file, over, size}
+use Rattle.stored.specs.Stores.{BackUnderAny, ComesBack, items, items_of, file, over, size}
 use Rattle.stored.proofs.Rounds.{back_from}
 use Rattle.stored.proofs.store.put_sheet.Goals as goal
 
@@ -20,7 +20,7 @@ put_file-requires g c =
     let lines : length c.all_windows-windows.result.now ≡ length (model t).core.windows =
     sym (length-map c.all_windows-windows.result.now span) ∙ ap length c.all_windows-windows.ensures in
     let rules : length c.all_rules-rules.result.now ≡ length (model t).core.rules = ap length c.all_rules-rules.ensures in
-    record { rules_in_bounds = omega (arith, lines, rules, c.requires); rules_len_bound = omega (arith, lines, rules, lines_count t, rules_count t, t.lines.few, t.rules.few) }
+    record { room = omega (arith, lines, rules, c.requires); few = omega (arith, lines, rules, lines_count t, rules_count t, t.lines.few, t.rules.few) }
 
 -- what is written, and that it comes back
 pub returns : goal.returns
@@ -36,10 +36,12 @@ returns g c =
     let same_rules : c.all_rules-rules.result.now ≡ held.rules = c.all_rules-rules.ensures in
     let written : c.put_file.new.out ≡ over (file drive mode (items held)) old =
     c.put_file.ensures ∙ (λ i. over (file (same-drive i) (same_mode i) (items_of (same-windows i) (same_rules i))) old) in
+    let any : BackUnderAny m c.args.sheet.now.number drive mode (model c.args.sheet.now.tables) c.put_file.new.out c.file_size.result = λ h reached number.
+    subst (λ (n : ℕ). ComesBack m number drive mode held (take n c.put_file.new.out)) (sym c.file_size.ensures)
+    (back_from m number drive mode held old c.put_file.new.out g.met.B.Book.small g.met.B.Book.within (all_sound reached).core_sound written) in
     record {
       size = c.file_size.ensures;
       file = written;
-      back = λ h reached number.
-          subst (λ (n : ℕ). ComesBack m number drive mode held (take n c.put_file.new.out)) (sym c.file_size.ensures)
-          (back_from m number drive mode held old c.put_file.new.out g.met.B.Book.small g.met.B.Book.within (all_sound reached).core_sound written);
+      back = λ h reached. any h reached c.args.sheet.now.number;
+      any = any;
     }

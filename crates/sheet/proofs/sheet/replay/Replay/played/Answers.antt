@@ -14,14 +14,14 @@ use Rattle.sheet.proofs.sheet.replay.Replay.played.Goals as goal
 -- no call has been played
 pub loop-call-init : goal.loop-call-init
 loop-call-init g c =
-    let m : Meaning = meaning g.B.Book.top g.B.Book.arity g.B.Book.counts (g.B.Book.related c.new-sheet.result.book) in
-    let new = c.new-sheet.ensures in
+    let m : Meaning = meaning g.B.Book.top g.B.Book.arity g.B.Book.counts (g.B.Book.related c.in_ok-sheet.sheet.book) in
+    let new = c.in_ok-sheet.ensures in
     (new.number, refl, subst₂ (λ (answers : List Answer) (s : Model). Played m c.args.number [] answers s) (sym c.new-answers.ensures.items) (sym new.empty) (played_none m c.args.number))
 
 -- one call more
 pub loop-call-preserved : goal.loop-call-preserved
 loop-call-preserved g c =
-    let m : Meaning = meaning g.B.Book.top g.B.Book.arity g.B.Book.counts (g.B.Book.related c.new-sheet.result.book) in
+    let m : Meaning = meaning g.B.Book.top g.B.Book.arity g.B.Book.counts (g.B.Book.related c.in_ok-sheet.sheet.book) in
     let old = c.loop-call.invariant in
     let i : ℕ = c.loop-call.call-index in
     let call : Call = get_or c.args.calls.now i (Call.Line 0 0) in
@@ -40,5 +40,5 @@ pub returns : goal.returns
 returns g c =
     let all = take_all c.loop-call.call-index c.args.calls.now c.loop-call-test.false in
     let played = subst₂ (λ (calls : List Call) (b : g.row.B.Denot). Played (meaning g.B.Book.top g.B.Book.arity g.B.Book.counts (g.B.Book.related b)) c.args.number calls (vec_items c.loop-call.answers) (model c.loop-call.sheet.tables))
-    all c.new-sheet.ensures.book c.loop-call.invariant.2 in
-    record { played = played; number = c.loop-call.invariant.0; book = c.loop-call.invariant.1 ∙ c.new-sheet.ensures.book }
+    all c.in_ok-sheet.ensures.book c.loop-call.invariant.2 in
+    record { played = played; number = c.loop-call.invariant.0; book = c.loop-call.invariant.1 ∙ c.in_ok-sheet.ensures.book }

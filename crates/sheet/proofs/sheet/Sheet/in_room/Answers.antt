@@ -5,7 +5,7 @@ use Rattle.law.specs.Steps.{Reached, set_up}
 use Rattle.law.proofs.Law.{lawful}
 use Rattle.runs.specs.Rounds.{meaning}
 use Rattle.tables.specs.Views.{model}
-use Rattle.sheet.proofs.sheet.Sheet.set_up.Goals as goal
+use Rattle.sheet.proofs.sheet.Sheet.in_room.Goals as goal
 
 -- no call leads to the empty sheet
 pub returns : goal.returns
