@@ -4,7 +4,7 @@ use Rattle.boxes.specs.declared.interval.Interval.{Interval}
 use Rattle.boxes.specs.declared.cuboid.Cuboid.{Cuboid}
 use Rattle.boxes.specs.Boxes.{Choice, In, Smallest}
 use Rattle.codes.specs.Counter.{counter_product}
-use Rattle.books.specs.Worked.{CounterProducts, CounterTravels}
+use Rattle.books.specs.Worked.{CounterProducts, CounterTravels, TravelsShown}
 use Rattle.windows.specs.Spans.{Span}
 use Rattle.books.specs.CounterBooks.{CounterMeets}
 use Rattle.books.specs.Narrowings.{Fit}
@@ -160,10 +160,15 @@ fit a b c p q r = record { known = lit< tt; up_to = (p, (q, (r, tt))) }
 -- The travels, by the boxes above.
 pub counter_travels : CounterTravels
 counter_travels = record {
-  jumping = three_closes counter_product a₁ b₁ c₁ box₁ smallest₁;
-  in_the_middle = three_closes counter_product a₂ b₂ c₂ box₂ smallest₂;
-  without = three_none counter_product a₃ b₃ c₃ none₃;
-  jumps = shows_box 65535 3 (CounterMeets 2) _ _ (fit _ _ _ (lit≤ tt) (lit≤ tt) (lit≤ tt)) (three_closes counter_product a₁ b₁ c₁ box₁ smallest₁);
-  middle = shows_box 65535 3 (CounterMeets 2) _ _ (fit _ _ _ (lit≤ tt) (lit≤ tt) (lit≤ tt)) (three_closes counter_product a₂ b₂ c₂ box₂ smallest₂);
-  empty = shows_none 65535 3 (CounterMeets 2) _ (fit _ _ _ (lit≤ tt) (lit≤ tt) (lit≤ tt)) (three_none counter_product a₃ b₃ c₃ none₃);
+  jumps = three_closes counter_product a₁ b₁ c₁ box₁ smallest₁;
+  middle = three_closes counter_product a₂ b₂ c₂ box₂ smallest₂;
+  empty = three_none counter_product a₃ b₃ c₃ none₃;
+}
+
+-- What the book's answers to them show.
+pub travels_shown : TravelsShown
+travels_shown = record {
+  jumps = shows_box 65535 3 (CounterMeets 2) _ _ (fit _ _ _ (lit≤ tt) (lit≤ tt) (lit≤ tt)) counter_travels.jumps;
+  middle = shows_box 65535 3 (CounterMeets 2) _ _ (fit _ _ _ (lit≤ tt) (lit≤ tt) (lit≤ tt)) counter_travels.middle;
+  empty = shows_none 65535 3 (CounterMeets 2) _ (fit _ _ _ (lit≤ tt) (lit≤ tt) (lit≤ tt)) counter_travels.empty;
 }

@@ -1,6 +1,6 @@
 -- Worked cases of both drives.
 --   product, sum   the code that a drive's operation makes of two codes
---   travel         a rule of kind 2: what the counter book answers to its windows, lower and upper end of each
+--   travel         a rule of kind 2, closed: its windows before and after, lower and upper end of each
 -- Assumes nothing.
 use Rattle.std.specs.Prelude.{◌≡◌, List, [], ◌∷◌}
 use Rattle.codes.specs.Counter.{counter_product}
@@ -18,16 +18,18 @@ pub record CounterProducts : Type 0 where
   pub just_top : counter_product 65535 1000 ≡ 65535
   pub just_over : counter_product 65535 1001 ≡ 65536
 
+-- Kind 2, travel: a product that jumps over the ends, ends that only the middle reaches, and windows without a choice.
+pub record CounterTravels : Type 0 where
+  pub jumps : Closes 3 (CounterMeets 2) (ends 3000 3002 ∷ ends 1500 1501 ∷ ends 4502 4505 ∷ []) (ends 3000 3002 ∷ ends 1500 1501 ∷ ends 4503 4504 ∷ [])
+  pub middle : Closes 3 (CounterMeets 2) (ends 3 4 ∷ ends 1000 1500 ∷ ends 5 5 ∷ []) (ends 4 4 ∷ ends 1250 1499 ∷ ends 5 5 ∷ [])
+  pub empty : NoChoice (CounterMeets 2) (ends 1700 1701 ∷ ends 1900 1901 ∷ ends 3232 3232 ∷ [])
+
 -- Whatever the counter book answers to a travel in these windows, it shows this.
 abbrev pub TravelShows : List Span → Seen → Type 0
 TravelShows ws what = (r : Narrowing) → Answered 65535 (counter_lines 2) (CounterMeets 2) ws r → seen r ≡ what
 
--- Kind 2, travel: a product that jumps over the ends, ends that only the middle reaches, and windows without a choice; what
--- the windows are, and what the book's answer to them shows.
-pub record CounterTravels : Type 0 where
-  pub jumping : Closes 3 (CounterMeets 2) (ends 3000 3002 ∷ ends 1500 1501 ∷ ends 4502 4505 ∷ []) (ends 3000 3002 ∷ ends 1500 1501 ∷ ends 4503 4504 ∷ [])
-  pub in_the_middle : Closes 3 (CounterMeets 2) (ends 3 4 ∷ ends 1000 1500 ∷ ends 5 5 ∷ []) (ends 4 4 ∷ ends 1250 1499 ∷ ends 5 5 ∷ [])
-  pub without : NoChoice (CounterMeets 2) (ends 1700 1701 ∷ ends 1900 1901 ∷ ends 3232 3232 ∷ [])
+-- The same three travels: what the book's answer to them shows.
+pub record TravelsShown : Type 0 where
   pub jumps : TravelShows (ends 3000 3002 ∷ ends 1500 1501 ∷ ends 4502 4505 ∷ []) (closed (ends 3000 3002 ∷ ends 1500 1501 ∷ ends 4503 4504 ∷ []))
   pub middle : TravelShows (ends 3 4 ∷ ends 1000 1500 ∷ ends 5 5 ∷ []) (closed (ends 4 4 ∷ ends 1250 1499 ∷ ends 5 5 ∷ []))
   pub empty : TravelShows (ends 1700 1701 ∷ ends 1900 1901 ∷ ends 3232 3232 ∷ []) no_choice

@@ -1,7 +1,7 @@
 //! Theorems about the definitions, each on the contract of a small public call.
 ghost use Rattle.std.specs.Prelude.{◌≡◌, ℕ};
 ghost use Rattle.books.specs.Narrowings.{OneAnswer};
-ghost use Rattle.books.specs.Worked.{WorkedCases};
+ghost use Rattle.books.specs.Worked.{TravelsShown, WorkedCases};
 
 use crate::book::Book;
 use half::laws::half_over;
@@ -18,6 +18,7 @@ fn with_one_answer<B: Book>(book: &B, count: u32) -> u32
 fn with_cases(count: u32) -> u32
     ensures same { result ≡ count }
     ensures cases { WorkedCases }
+    ensures shown { TravelsShown }
 {
     let _ = half_over();
     count
@@ -35,6 +36,7 @@ pub fn one_answer<B: Book>(book: &B) -> u32
 pub fn worked_cases() -> u32
     ensures count { result ≡ 13 }
     ensures cases { WorkedCases }
+    ensures shown { TravelsShown }
 {
     with_cases(13)
 }

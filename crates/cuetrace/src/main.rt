@@ -2,7 +2,7 @@
 #![tactic(auto)]
 
 use anyhow::anyhow;
-use report::export::trace;
+use report::trace::trace;
 use std::io::{Read, Write};
 
 /// No report has more bytes.

@@ -3,4 +3,4 @@
 
 #[cfg(test)]
 mod tests;
-mod tickets;
+pub mod tickets;

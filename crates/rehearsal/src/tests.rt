@@ -7,7 +7,6 @@ use sheet::sheet::Sheet;
 use sheet::sheet::replay::Replay;
 use std::process::Abort;
 use std::test::Fail;
-use tables::room::Room;
 
 /// Plays the calls on counter sheet 7, and holds the answers and the windows at the end to what they must be.
 fn plays(
@@ -85,7 +84,21 @@ fn a_window_creeps_away(rt: HostRuntime) -> Result<(), Fail> {
         &[a, b, c, d, e, Call::Settle(1022)],
         &[p, q, r, s, t, Answer::Spent(1022)],
         &[(511, 512), (1, 1), (511, 512)],
-    )?;
+    )
+}
+
+#[test]
+fn a_window_creeps_step_by_step(rt: HostRuntime) -> Result<(), Fail> {
+    let set_up = [
+        line(0, 1023),
+        line(1, 1),
+        line(0, 1023),
+        rule(3, 1, 2, 3),
+        rule(5, 3, 1, 0),
+    ];
+    let numbers = [number(1), number(2), number(3), number(1), number(2)];
+    let [a, b, c, d, e] = set_up;
+    let [p, q, r, s, t] = numbers;
     let first = [
         (0, (0, 1023), (0, 1023)),
         (1, (0, 1022), (1, 1023)),
@@ -209,14 +222,14 @@ fn refusals_come_in_their_order(rt: HostRuntime) -> Result<(), Fail> {
 
 #[test]
 fn a_client_spends_its_tickets(rt: HostRuntime) -> Result<(), Fail> {
-    let mut sheet = Sheet::new(Room::reserve(rt.alloc())?, 1, CounterBook);
+    let mut sheet = Sheet::new(rt.alloc(), 1, CounterBook)?;
     assert!(rt; strike_then_keep(&mut sheet) && sheet.tries() == 0);
     Ok(())
 }
 
 #[test]
 fn a_wish_is_tried_out(rt: HostRuntime) -> Result<(), Fail> {
-    let mut sheet = Sheet::new(Room::reserve(rt.alloc())?, 1, CounterBook);
+    let mut sheet = Sheet::new(rt.alloc(), 1, CounterBook)?;
     assert!(rt; sheet.line(3, 9).is_ok() && sheet.line(5, 6).is_ok());
     assert!(rt; sheet.rule(5, 2, 1, 0).is_ok());
     // line 2 is not after line 1: no code of 3 to 4 is left for line 1

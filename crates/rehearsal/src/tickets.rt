@@ -1,11 +1,15 @@
 //! Clients of the sheet: tries that are struck and kept, and a wish tried out and taken back. Every ticket is spent, which the
 //! check asks of each way through a function.
+ghost use Rattle.std.specs.Prelude.{◌≡◌};
+
 use books::counter::CounterBook;
 use runs::settled::Settled;
 use sheet::sheet::Sheet;
 
 /// Opens a try and strikes it, then opens another and keeps it; false where a try cannot be opened.
-pub(crate) fn strike_then_keep(sheet: &mut Sheet<CounterBook>) -> bool {
+pub fn strike_then_keep(sheet: &mut Sheet<CounterBook>) -> bool
+    ensures { sheet.new.number ≡ sheet.old.number }
+{
     let Ok(ticket) = sheet.open() else {
         return false;
     };

@@ -12,13 +12,14 @@ use Rattle.law.proofs.Runs.{unique_ending}
 use Rattle.runs.specs.declared.settled.Settled.{Settled}
 use Rattle.runs.specs.Rounds.{Finished, answered, left_by}
 use Rattle.stored.specs.declared.fault.LoadFault.{LoadFault}
+use Rattle.stored.specs.Faults.{load_at, load_number}
 use Rattle.stored.specs.Loads.{Progress, loads}
 use Rattle.stored.specs.Records.{byte}
 use Rattle.report.specs.declared.outcome.Outcome.{Outcome}
-use Rattle.stored.specs.Stores.{over}
+use Rattle.report.specs.Adding.{over}
 use Rattle.report.specs.Report.{report}
-use Rattle.report.specs.Traces.{Comes, OutcomeOf, Reported, SettlesTo, TraceOf, UniqueTrace, allowance, half_meaning}
-use Rattle.report.specs.Traces.{by_counter, by_half, by_none, refused as faulted, reported, settles, too_small}
+use Rattle.report.specs.Traces.{Comes, OutcomeOf, Reported, SettlesTo, TraceIn, UniqueTrace, allowance, half_meaning}
+use Rattle.report.specs.Traces.{by_counter, by_half, by_none, refused as faulted, settles, below, written}
 
 -- An answer of settle is known by the answer of the call.
 same_answer : (a b : Settled) → answered a ≡ answered b → a ≡ b
@@ -49,7 +50,7 @@ comes_once :
 comes_once m loaded o p vs us (faulted f e is) (faulted g d was) =
     let same : f ≡ g = cc in
     ap (λ (x : Outcome). report x vs) is
-    ∙ ap (λ (x : LoadFault). report (Outcome.Refused x) vs) same
+    ∙ ap (λ (x : LoadFault). report (Outcome.Refused (load_number x) (load_at x)) vs) same
     ∙ sym (ap (λ (x : Outcome). report x us) was)
 comes_once m loaded o p vs us (faulted f e is) (settles r b d was t) = let z : ◌≡◌ {A = ℕ} 0 1 = cc in let w : ⊥ = omega arith in absurd w
 comes_once m loaded o p vs us (settles q a e is s) (faulted g d was) = let z : ◌≡◌ {A = ℕ} 0 1 = cc in let w : ⊥ = omega arith in absurd w
@@ -98,10 +99,10 @@ outcome_once input o p vs us (by_none d e x) (by_none f g y) =
 
 -- A trace leaves one memory, and gives one answer.
 pub unique_trace : UniqueTrace
-unique_trace input old new new' answer answer' (too_small l p q) (too_small l' p' q') = (p ∙ sym p', q ∙ sym q')
-unique_trace input old new new' answer answer' (too_small l p q) (reported l' r') = let w : ⊥ = omega arith in absurd w
-unique_trace input old new new' answer answer' (reported l r) (too_small l' p' q') = let w : ⊥ = omega arith in absurd w
-unique_trace input old new new' answer answer' (reported l r) (reported l' r') =
+unique_trace input old new new' answer answer' (below l p q) (below l' p' q') = (p ∙ sym p', q ∙ sym q')
+unique_trace input old new new' answer answer' (below l p q) (written l' r') = let w : ⊥ = omega arith in absurd w
+unique_trace input old new new' answer answer' (written l r) (below l' p' q') = let w : ⊥ = omega arith in absurd w
+unique_trace input old new new' answer answer' (written l r) (written l' r') =
     let same : report r.outcome r.windows ≡ report r'.outcome r'.windows = outcome_once input r.outcome r'.outcome r.windows r'.windows r.comes r'.comes in (
       r.bytes ∙ ap (λ (text : List ℕ). over text old) same ∙ sym r'.bytes,
       r.count ∙ ap length same ∙ sym r'.count,

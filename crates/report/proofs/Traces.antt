@@ -23,15 +23,16 @@ use Rattle.runs.specs.Rounds.{answered, left_by}
 use Rattle.stored.specs.declared.fault.LoadFault.{LoadFault}
 use Rattle.stored.specs.declared.fault.LoadFault.TheVariants.{Chain, Length, Head}
 use Rattle.stored.specs.declared.item.Item.{Item}
+use Rattle.stored.specs.Faults.{load_at, load_number}
 use Rattle.stored.specs.Loads.{Progress, bad_length, chain, judged, loads, on, on_read, start, step, walk}
 use Rattle.stored.specs.Loads as stored-loads
 use Rattle.stored.specs.Records.{byte, call_of, is_head, read, record_at, records}
 use Rattle.report.specs.declared.outcome.Outcome.{Outcome}
 use Rattle.report.specs.Concluding.{Concluded}
-use Rattle.stored.specs.Stores.{over}
-use Rattle.report.specs.Report.{after_report, fits, printable, report, report_answer, up_to}
+use Rattle.report.specs.Adding.{over}
+use Rattle.report.specs.Report.{after_report, printable, report, report_answer, up_to}
 use Rattle.report.specs.Traces.{Comes, GreatestWithin, NoneWithin, SettlesTo, allowance}
-use Rattle.report.specs.Traces.{Reported, TraceOf, by_none, refused as faulted, reported, settles}
+use Rattle.report.specs.Traces.{Reported, TraceIn, TraceOf, below, by_none, refused as faulted, reported, settles, too_small, traced, written}
 
 -- A load leaves its sheet unsettled.
 abbrev Unsettled : Progress → Type 0
@@ -186,7 +187,7 @@ steps_refused m id s t why u (does v ran) = told_not ran.ending why ran.says
 -- A refused load, concluded.
 pub conclude_fault :
     (m : Meaning) (id : ℕ) (s : Model) (fault : Option LoadFault) (f : LoadFault) (r : Result Progress LoadFault) (o : Outcome) →
-    fault ≡ Some f → o ≡ Outcome.Refused f → stored-loads.Outcome m id s fault r → Concluded m r o s.core.windows
+    fault ≡ Some f → o ≡ Outcome.Refused (load_number f) (load_at f) → stored-loads.Outcome m id s fault r → Concluded m r o s.core.windows
 conclude_fault m id s fault f (Ok p) o is_some is loaded =
     let none : fault ≡ None = loaded.0 in
     let z : ◌≡◌ {A = ℕ} 0 1 = cc in let w : ⊥ = omega arith in absurd w
@@ -227,25 +228,20 @@ conclude_never m id s t fault why (Err f) unsettled is_none called loaded =
     let some : fault ≡ Some f = loaded.0 in
     let z : ◌≡◌ {A = ℕ} 0 1 = cc in let w : ⊥ = omega arith in absurd w
 
--- Windows that can be printed fit after any answer.
-printable_fits : (o : Outcome) (ws : List Span) → printable ws ≡ true → fits o ws ≡ true
-printable_fits (Outcome.Settled answer) ws p = p
-printable_fits (Outcome.Refused fault) ws p = refl
-
 -- A report that was written, of windows that can be printed.
 pub reported_as :
     {Is : Outcome → List Span → Type 0} (o : Outcome) (ws vs : List Span) (old new : List ℕ) (r : ℕ) →
     ws ≡ vs → Is o vs → printable vs ≡ true → 1024 ≤ length old →
     new ≡ after_report o ws old → r ≡ report_answer o ws old → r ≤ 1024 → Reported Is old new r
 reported_as {Is} o ws vs old new r same comes prints room bytes count short =
-    let ready : leb 1024 (length old) && fits o ws ≡ true =
-    and_from (leb 1024 (length old)) (fits o ws) (le-leb 1024 (length old) room) (printable_fits o ws (ap printable same ∙ prints)) in
+    let ready : leb 1024 (length old) && printable ws ≡ true =
+    and_from (leb 1024 (length old)) (printable ws) (le-leb 1024 (length old) room) (ap printable same ∙ prints) in
     record {
       outcome = o;
       windows = ws;
       comes = subst (Is o) (sym same) comes;
-      bytes = bytes ∙ cond-true (leb 1024 (length old) && fits o ws) (over (report o ws) old) old ready;
-      count = count ∙ cond-true (leb 1024 (length old) && fits o ws) (length (report o ws)) 0 ready;
+      bytes = bytes ∙ cond-true (leb 1024 (length old) && printable ws) (over (report o ws) old) old ready;
+      count = count ∙ cond-true (leb 1024 (length old) && printable ws) (length (report o ws)) 0 ready;
       short = short;
     }
 
@@ -266,5 +262,10 @@ reported_more more x =
 -- A trace where no book fits.
 pub none_traced :
     {input old new : List ℕ} {r : ℕ} → 1024 ≤ length old → (byte input 2 ≡ 0 → 2 < byte input 3) → (byte input 2 ≡ 1 → 0 < byte input 3) →
-    Reported (λ o vs. o ≡ Outcome.Refused (cond (bad_length (length input)) Length Head)) old new r → TraceOf input old new r
-none_traced room half-none counter-none x = reported room (reported_more (λ o vs is. by_none half-none counter-none is) x)
+    Reported (λ o vs. o ≡ Outcome.Refused (cond (bad_length (length input)) 10 11) 0) old new r → TraceIn input old new r
+none_traced room half-none counter-none x = written room (reported_more (λ o vs is. by_none half-none counter-none is) x)
+
+-- A trace in reserved room is a trace.
+pub traced_in : {input old new : List ℕ} {r : ℕ} → TraceIn input old new r → TraceOf input old new r
+traced_in (below small same answer) = too_small small same answer
+traced_in (written room x) = traced room (reported x)

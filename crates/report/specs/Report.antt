@@ -11,8 +11,7 @@ use Rattle.windows.specs.Spans.{Span}
 use Rattle.runs.specs.declared.settled.Settled.{Settled}
 use Rattle.report.specs.declared.outcome.Outcome.{Outcome}
 use Rattle.report.specs.declared.word.Word.{Word}
-use Rattle.stored.specs.Faults.{load_at, load_number}
-use Rattle.stored.specs.Stores.{over}
+use Rattle.report.specs.Adding.{over}
 
 -- The bytes of a word: `standing`, `spent`, `barren`, `refused`, `at`, or a number.
 abbrev pub spelled : Word → List ℕ
@@ -45,7 +44,7 @@ abbrev pub report : Outcome → List Span → List ℕ
 report (Outcome.Settled (Settled.Standing count)) ws = row Word.Standing (Word.Number count ∷ []) ++ rows 1 ws
 report (Outcome.Settled (Settled.Spent allowance)) ws = row Word.Spent (Word.Number allowance ∷ []) ++ rows 1 ws
 report (Outcome.Settled (Settled.Barren rule)) ws = row Word.Barren (Word.Number rule ∷ []) ++ rows 1 ws
-report (Outcome.Refused fault) ws = row Word.Refused (Word.Number (load_number fault) ∷ Word.At ∷ Word.Number (load_at fault) ∷ [])
+report (Outcome.Refused number at) ws = row Word.Refused (Word.Number number ∷ Word.At ∷ Word.Number at ∷ [])
 
 -- No end of the windows is above top.
 unfoldable pub up_to : ℕ → List Span → Bool
@@ -56,15 +55,10 @@ up_to top (w ∷ ws) = nat_le w.hi top && up_to top ws
 abbrev pub printable : List Span → Bool
 printable ws = up_to 65535 ws && nat_le (length ws) 64
 
--- The report of the outcome, with these windows, is sure to fit: a refused report has no windows.
-abbrev pub fits : Outcome → List Span → Bool
-fits (Outcome.Settled answer) ws = printable ws
-fits (Outcome.Refused fault) ws = true
-
 -- The memory after the report: where it has under 1,024 bytes, or the windows are no sheet's, it stays as it was.
 abbrev pub after_report : Outcome → List Span → List ℕ → List ℕ
-after_report outcome ws out = cond (nat_le 1024 (length out) && fits outcome ws) (over (report outcome ws) out) out
+after_report outcome ws out = cond (nat_le 1024 (length out) && printable ws) (over (report outcome ws) out) out
 
 -- The answer: the report's length, or 0 where none is written.
 abbrev pub report_answer : Outcome → List Span → List ℕ → ℕ
-report_answer outcome ws out = cond (nat_le 1024 (length out) && fits outcome ws) (length (report outcome ws)) 0
+report_answer outcome ws out = cond (nat_le 1024 (length out) && printable ws) (length (report outcome ws)) 0

@@ -17,11 +17,11 @@ use Rattle.law.specs.declared.calls.Rule.{Rule}
 use Rattle.runs.specs.Rounds.{Finished, meaning}
 use Rattle.runs.specs.declared.settled.Settled.{Settled}
 use Rattle.stored.specs.declared.fault.LoadFault.{LoadFault}
-use Rattle.stored.specs.declared.fault.LoadFault.TheVariants.{Head, Length}
+use Rattle.stored.specs.Faults.{load_at, load_number}
 use Rattle.stored.specs.Loads.{Progress, bad_length, loads}
 use Rattle.stored.specs.Records.{byte}
-use Rattle.stored.specs.Stores.{over}
 use Rattle.report.specs.declared.outcome.Outcome.{Outcome}
+use Rattle.report.specs.Adding.{over}
 use Rattle.report.specs.Report.{report}
 
 -- The allowance of narrowings.
@@ -46,7 +46,7 @@ pub record SettlesTo (m : Meaning) (rules : List Rule) (ws vs : List Span) (answ
 
 -- The outcome of a load, and where it was not refused, of the settle after it, which leaves the windows vs.
 pub data Comes (m : Meaning) (loaded : Result Progress LoadFault) (o : Outcome) (vs : List Span) : Type 0 where
-  refused : (f : LoadFault) → loaded ≡ Err f → o ≡ Outcome.Refused f → Comes m loaded o vs
+  refused : (f : LoadFault) → loaded ≡ Err f → o ≡ Outcome.Refused (load_number f) (load_at f) → Comes m loaded o vs
   settles : (p : Progress) (answer : Settled) → loaded ≡ Ok p → o ≡ Outcome.Settled answer
       → SettlesTo m p.sheet.core.rules p.sheet.core.windows vs answer → Comes m loaded o vs
 
@@ -59,14 +59,14 @@ half_meaning mode = meaning 31743 half_lines (counted two_to_five) (HalfMeets mo
 
 -- The outcome of a stored sheet, by the drive in byte 2 and the mode in byte 3 of its head (0 where a file is so short):
 -- drive 0 with mode 0, 1 or 2 is the half book of the mode, drive 1 with mode 0 the counter book. Where neither fits, the
--- fault is that of the head (11), but that of the length (10) first, where the length is no stored sheet's.
+-- refusal is 11, but 10 first, where the length is no stored sheet's.
 pub data OutcomeOf (input : List ℕ) (o : Outcome) (vs : List Span) : Type 0 where
   by_half : (mode : Mode) → byte input 2 ≡ 0 → byte input 3 ≡ mode_number mode
       → Comes (half_meaning mode) (loads (half_meaning mode) 0 0 (mode_number mode) input) o vs → OutcomeOf input o vs
   by_counter : byte input 2 ≡ 1 → byte input 3 ≡ 0
       → Comes counter_meaning (loads counter_meaning 0 1 0 input) o vs → OutcomeOf input o vs
   by_none : (byte input 2 ≡ 0 → 2 < byte input 3) → (byte input 2 ≡ 1 → 0 < byte input 3)
-      → o ≡ Outcome.Refused (cond (bad_length (length input)) Length Head) → OutcomeOf input o vs
+      → o ≡ Outcome.Refused (cond (bad_length (length input)) 10 11) 0 → OutcomeOf input o vs
 
 -- The report of an outcome that is so stands at the start of the memory; what was after it is as it was. The answer is the
 -- report's length.
@@ -78,20 +78,25 @@ pub record Reported (Is : Outcome → List Span → Type 0) (old new : List ℕ)
   pub count : answer ≡ length (report outcome windows)
   pub short : answer ≤ 1024
 
--- What trace does in room that was reserved: with under 1,024 bytes of memory it answers 0 and writes nothing; else it writes
--- the report of what the stored sheet comes to.
+-- The same, or memory was wanting for the sheet: the greatest number of 64 bits, which no report has for its length, and
+-- the memory stays.
+pub data Traced (Is : Outcome → List Span → Type 0) (old new : List ℕ) (answer : ℕ) : Type 0 where
+  reported : Reported Is old new answer → Traced Is old new answer
+  no_memory : new ≡ old → answer ≡ 18446744073709551615 → Traced Is old new answer
+
+-- What trace does: with under 1,024 bytes of memory it answers 0 and writes nothing.
 pub data TraceOf (input old new : List ℕ) (answer : ℕ) : Type 0 where
   too_small : length old < 1024 → new ≡ old → answer ≡ 0 → TraceOf input old new answer
-  reported : 1024 ≤ length old → Reported (OutcomeOf input) old new answer → TraceOf input old new answer
+  traced : 1024 ≤ length old → Traced (OutcomeOf input) old new answer → TraceOf input old new answer
 
--- What the exported trace does, which reserves the room itself: the same, or memory for the sheet was wanting: the greatest
--- number of 64 bits, which no report has for its length, and the memory stays.
-pub data ExportOf (input old new : List ℕ) (answer : ℕ) : Type 0 where
-  traced : TraceOf input old new answer → ExportOf input old new answer
-  no_memory : 1024 ≤ length old → new ≡ old → answer ≡ 18446744073709551615 → ExportOf input old new answer
+-- What trace does in room that was reserved: with under 1,024 bytes of memory it answers 0 and writes nothing; else it writes
+-- the report of what the stored sheet comes to.
+pub data TraceIn (input old new : List ℕ) (answer : ℕ) : Type 0 where
+  below : length old < 1024 → new ≡ old → answer ≡ 0 → TraceIn input old new answer
+  written : 1024 ≤ length old → Reported (OutcomeOf input) old new answer → TraceIn input old new answer
 
--- A trace leaves one memory, and gives one answer.
+-- A trace in room that was reserved leaves one memory, and gives one answer.
 abbrev pub UniqueTrace : Type 0
 UniqueTrace =
     (input old new new' : List ℕ) (answer answer' : ℕ) →
-    TraceOf input old new answer → TraceOf input old new' answer' → (new ≡ new') × (answer ≡ answer')
+    TraceIn input old new answer → TraceIn input old new' answer' → (new ≡ new') × (answer ≡ answer')

@@ -1,7 +1,6 @@
 //! The report: the text of an outcome, written into memory that the caller brings.
 #![tactic(auto)]
 
-pub mod export;
 pub mod outcome;
 mod put;
 pub mod text;

@@ -2,14 +2,12 @@
 ghost use Rattle.std.specs.Prelude.{◌≡◌, ◌+◌, ◌*◌, ◌≤◌, true, [], ◌∷◌, ◌++◌, map, length, decimal};
 ghost use Rattle.report.specs.declared.word.Word.{Word as AnyWord};
 ghost use Rattle.report.specs.Adding.{Adds, Begins};
-ghost use Rattle.report.specs.Report.{fits, printable, report, row, rows, spaced, spelled};
-ghost use Rattle.stored.specs.Faults.{load_at, load_number};
+ghost use Rattle.report.specs.Report.{printable, report, row, rows, spaced, spelled};
 ghost use Rattle.windows.specs.Windows.{span};
 
 use crate::outcome::Outcome;
 use crate::word::Word;
 use runs::settled::Settled;
-use stored::fault::LoadFault;
 use windows::window::Window;
 
 /// Writes one byte.
@@ -116,25 +114,25 @@ fn put_answer(out: &mut [u8], word: Word, number: u32, windows: &[Window]) -> us
 }
 
 /// Writes the report of a refused load.
-fn put_refused(out: &mut [u8], fault: LoadFault) -> usize
+fn put_refused(out: &mut [u8], number: u8, at: u8) -> usize
     requires { 1024 ≤ length out.old }
-    ensures { Begins out.old (row AnyWord.Refused (AnyWord.Number (load_number fault) ∷ AnyWord.At ∷ AnyWord.Number (load_at fault) ∷ [])) out.new result }
+    ensures { Begins out.old (row AnyWord.Refused (AnyWord.Number number ∷ AnyWord.At ∷ AnyWord.Number at ∷ [])) out.new result }
 {
     put_row(
         out,
         0,
         Word::Refused,
         &[
-            Word::Number(fault.number() as u32),
+            Word::Number(number as u32),
             Word::At,
-            Word::Number(fault.at() as u32),
+            Word::Number(at as u32),
         ],
     )
 }
 
 /// Writes the report.
 pub(crate) fn put_report(out: &mut [u8], outcome: Outcome, windows: &[Window]) -> usize
-    requires fits { fits outcome (map span windows.now) ≡ true }
+    requires printable { printable (map span windows.now) ≡ true }
     requires room { 1024 ≤ length out.old }
     ensures { Begins out.old (report outcome (map span windows.now)) out.new result }
 {
@@ -152,12 +150,12 @@ pub(crate) fn put_report(out: &mut [u8], outcome: Outcome, windows: &[Window]) -
             windows,
         ),
         Outcome::Settled(Settled::Barren(rule)) => put_answer(out, Word::Barren, rule, windows),
-        Outcome::Refused(fault) => put_refused(out, fault),
+        Outcome::Refused { number, at } => put_refused(out, number, at),
     }
 }
 
 /// Whether the windows are as a sheet can have them: no more than 64, and no end above 65,535.
-fn are_printable(windows: &[Window]) -> bool
+pub(crate) fn are_printable(windows: &[Window]) -> bool
     ensures { result ≡ printable (map span windows.now) }
 {
     for window in windows {
@@ -166,14 +164,4 @@ fn are_printable(windows: &[Window]) -> bool
         }
     }
     windows.len() <= 64
-}
-
-/// Whether the report of the outcome is sure to fit: a refused report has no windows.
-pub(crate) fn is_sure_to_fit(outcome: Outcome, windows: &[Window]) -> bool
-    ensures { result ≡ fits outcome (map span windows.now) }
-{
-    match outcome {
-        Outcome::Settled(_) => are_printable(windows),
-        Outcome::Refused(_) => true,
-    }
 }

@@ -7,8 +7,8 @@ use sheet::sheet::replay::Replay;
 use std::alloc::Global;
 use std::process::Abort;
 use std::test::Fail;
-use stored::load::load;
-use stored::reload::reload;
+use stored::load::{load, load_in};
+use stored::reload::{reload, reload_in};
 use stored::store::store;
 use tables::room::Room;
 
@@ -38,7 +38,7 @@ fn file(heap: Global, rows: &[[u8; 8]]) -> Result<Vec<u8>, Fail> {
 
 /// The bytes are refused by this number at this index, and a fresh sheet is left.
 fn refused(rt: &impl Abort, heap: Global, bytes: &[u8], number: u8, at: u8) -> Result<(), Fail> {
-    let loaded = load(Room::reserve(heap)?, 7, CounterBook, bytes);
+    let loaded = load(heap, 7, CounterBook, bytes)?;
     let fault = loaded.fault.ok_or("no fault")?;
     assert_eq!(rt; fault.number(), number);
     assert_eq!(rt; fault.at(), at);
@@ -50,7 +50,7 @@ fn refused(rt: &impl Abort, heap: Global, bytes: &[u8], number: u8, at: u8) -> R
 
 /// The bytes are loaded, with so many lines and rules.
 fn taken(rt: &impl Abort, heap: Global, bytes: &[u8], lines: u32, rules: u32) -> Result<(), Fail> {
-    let loaded = load(Room::reserve(heap)?, 7, CounterBook, bytes);
+    let loaded = load(heap, 7, CounterBook, bytes)?;
     assert!(rt; loaded.fault.is_none());
     assert_eq!(rt; loaded.sheet.number(), 7);
     assert_eq!(rt; loaded.sheet.lines(), lines);
@@ -268,7 +268,7 @@ fn stored_and_loaded(rt: HostRuntime) -> Result<(), Fail> {
         heap,
         &[head(1), [1, 2, 232, 3, 220, 5, 0, 0], line(3), rule(0)],
     )?;
-    let loaded = load(Room::reserve(heap)?, 7, CounterBook, bytes.as_slice());
+    let loaded = load(heap, 7, CounterBook, bytes.as_slice())?;
     assert!(rt; loaded.fault.is_none());
     let mut short = [9u8; 31];
     assert_eq!(rt;
@@ -281,14 +281,14 @@ fn stored_and_loaded(rt: HostRuntime) -> Result<(), Fail> {
     assert_eq!(rt; short[0], 9);
     let mut out = [9u8; 40];
     assert_eq!(rt; store(&loaded.sheet, &mut out).ok().ok_or("refused")?, 32);
-    assert!(rt; &out[0..32] == bytes.as_slice());
+    assert!(rt; &out[..32] == bytes.as_slice());
     assert_eq!(rt; out[32], 9);
     assert_eq!(rt; out[39], 9);
-    let again = reload(Room::reserve(heap)?, 8, &loaded.sheet, &mut out)
+    let again = reload(heap, &loaded.sheet, &mut out)?
         .ok()
         .ok_or("refused")?;
     assert!(rt; again.fault.is_none());
-    assert_eq!(rt; again.sheet.number(), 8);
+    assert_eq!(rt; again.sheet.number(), 7);
     assert_eq!(rt; again.sheet.lines(), 2);
     assert_eq!(rt; again.sheet.rules(), 1);
     Ok(())
@@ -341,7 +341,7 @@ fn a_store_writes_the_windows_as_they_are_now(rt: HostRuntime) -> Result<(), Fai
     let mut out = [9u8; 33];
     assert_eq!(rt; store(played.sheet(), &mut out).ok().ok_or("refused")?, 32);
     let want = file(heap, &[head(1), [1, 2, 2, 0, 4, 0, 0, 0], line(3), rule(0)])?;
-    assert!(rt; &out[0..32] == want.as_slice());
+    assert!(rt; &out[..32] == want.as_slice());
     assert_eq!(rt; out[32], 9);
     Ok(())
 }
@@ -388,7 +388,7 @@ fn refused_stores(rt: HostRuntime) -> Result<(), Fail> {
     let heap = rt.alloc();
     // line 1 must not be after line 2, and is
     let bytes = file(heap, &[head(1), [1, 2, 9, 0, 9, 0, 0, 0], line(3), rule(0)])?;
-    let mut loaded = load(Room::reserve(heap)?, 7, CounterBook, bytes.as_slice());
+    let mut loaded = load(heap, 7, CounterBook, bytes.as_slice())?;
     assert!(rt; loaded.fault.is_none());
     let _ = loaded.sheet.settle(10);
     let mut out = [9u8; 8];
@@ -404,23 +404,45 @@ fn refused_stores(rt: HostRuntime) -> Result<(), Fail> {
 }
 
 #[test]
+fn stored_and_loaded_under_another_number(rt: HostRuntime) -> Result<(), Fail> {
+    let heap = rt.alloc();
+    let bytes = file(
+        heap,
+        &[head(1), [1, 2, 232, 3, 220, 5, 0, 0], line(3), rule(0)],
+    )?;
+    let loaded = load_in(Room::reserve(heap)?, 7, CounterBook, bytes.as_slice());
+    assert!(rt; loaded.fault.is_none());
+    let mut out = [9u8; 40];
+    let again = reload_in(Room::reserve(heap)?, 8, &loaded.sheet, &mut out)
+        .ok()
+        .ok_or("refused")?;
+    assert!(rt; again.fault.is_none());
+    assert_eq!(rt; again.sheet.number(), 8);
+    assert_eq!(rt; again.sheet.lines(), 2);
+    assert_eq!(rt; again.sheet.rules(), 1);
+    assert!(rt; &out[..32] == bytes.as_slice());
+    assert_eq!(rt; out[32], 9);
+    Ok(())
+}
+
+#[test]
 fn another_book(rt: HostRuntime) -> Result<(), Fail> {
     let heap = rt.alloc();
     let bare = [1, 1, 9, 3, 0, 0, 0, 0];
     // the book has no kind of rule
     let bytes = file(heap, &[bare, line(2), line(3), rule(0)])?;
-    let loaded = load(Room::reserve(heap)?, 7, BareBook, bytes.as_slice());
+    let loaded = load_in(Room::reserve(heap)?, 7, BareBook, bytes.as_slice());
     let fault = loaded.fault.ok_or("no fault")?;
     assert_eq!(rt; (fault.number(), fault.at()), (4, 3));
     assert_eq!(rt; loaded.sheet.lines(), 0);
     // and its own top
     let high = file(heap, &[bare, line(2), [1, 0, 3, 0, 101, 0, 0, 0]])?;
-    let loaded = load(Room::reserve(heap)?, 7, BareBook, high.as_slice());
+    let loaded = load_in(Room::reserve(heap)?, 7, BareBook, high.as_slice());
     let fault = loaded.fault.ok_or("no fault")?;
     assert_eq!(rt; (fault.number(), fault.at()), (1, 2));
     // and its own drive and mode
     let counter = file(heap, &[head(1), line(0)])?;
-    let loaded = load(Room::reserve(heap)?, 7, BareBook, counter.as_slice());
+    let loaded = load_in(Room::reserve(heap)?, 7, BareBook, counter.as_slice());
     let fault = loaded.fault.ok_or("no fault")?;
     assert_eq!(rt; (fault.number(), fault.at()), (11, 0));
     Ok(())

@@ -1,5 +1,6 @@
-use Rattle.std.proofs.Common.{refl}
+use Rattle.std.proofs.Common.{ℕ, refl, ap₂}
 use Rattle.tables.specs.Views.{model}
+use Rattle.report.specs.declared.outcome.Outcome.{Outcome}
 use Rattle.report.proofs.Traces.{conclude_fault, conclude_never, conclude_settled, loads_unsettled}
 use Rattle.report.proofs.trace.conclude.Goals as goal
 
@@ -7,7 +8,7 @@ use Rattle.report.proofs.trace.conclude.Goals as goal
 pub returns-in-Some : goal.returns-in-Some
 returns-in-Some g c drive mode bytes loaded =
     conclude_fault _ c.args.loaded.now.sheet.number (model c.args.loaded.now.sheet.tables) c.args.loaded.now.fault c.in-Some.fault _ _
-    c.in-Some.is refl loaded
+    c.in-Some.is (ap₂ (λ (n k : ℕ). Outcome.Refused n k) c.number.ensures c.at.ensures) loaded
 
 -- the settle answered
 pub returns-in-Ok : goal.returns-in-Ok

@@ -5,5 +5,5 @@ use Rattle.report.proofs.trace.trace_by_none.Goals as goal
 
 pub returns : goal.returns
 returns c =
-    reported_as _ [] [] c.args.output.now _ _ refl (ap Outcome.Refused c.no_book_fault-fault.ensures) (none_printable [] refl) c.requires
+    reported_as _ [] [] c.args.output.now _ _ refl (ap (λ (n : ℕ). Outcome.Refused n 0) c.no_book_number.ensures) (none_printable [] refl) c.requires
     c.write_report.ensures.bytes c.write_report.ensures.count c.write_report.ensures.short

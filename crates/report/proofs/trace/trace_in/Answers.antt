@@ -1,18 +1,18 @@
 use Rattle.std.proofs.Common.{arith}
-use Rattle.report.specs.Traces.{by_counter, by_half, reported}
+use Rattle.report.specs.Traces.{by_counter, by_half, written}
 use Rattle.report.proofs.Traces.{none_traced, reported_more}
 use Rattle.report.proofs.trace.trace_in.Goals as goal
 
 -- the half book of the mode
 pub returns-in-Half : goal.returns-in-Half
 returns-in-Half c =
-    reported (omega arith)
+    written (omega arith)
     (reported_more (λ o vs is. by_half c.in-Half.book.mode (omega (arith, c.in-Half.ensures)) (omega (arith, c.in-Half.ensures)) is) c.trace_by.ensures)
 
 -- the counter book
 pub returns-in-Counter : goal.returns-in-Counter
 returns-in-Counter c =
-    reported (omega arith)
+    written (omega arith)
     (reported_more (λ o vs is. by_counter (omega (arith, c.in-Counter.ensures)) (omega (arith, c.in-Counter.ensures)) is) c.trace_by-in-Counter.ensures)
 
 -- neither
