@@ -3,6 +3,8 @@
 # implementation in C, in one run. Needs gcc and a machine with F16C and AVX2.
 set -e
 cd "$(dirname "$0")/../.."
-rt staticlib half_export > target/bench-half.log 2>&1 || { tail -5 target/bench-half.log; exit 1; }
+mkdir -p target/staticlib
+(cd crates/half_export && rt lib) > target/bench-half.log 2>&1 || { tail -5 target/bench-half.log; exit 1; }
+cp crates/half_export/out/libhalf_export.a target/staticlib/
 gcc -O3 -frounding-math -o target/bench-half bench/half/bench.c target/staticlib/libhalf_export.a
 target/bench-half

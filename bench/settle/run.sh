@@ -4,11 +4,12 @@
 # word as argument times only the jobs whose names have it.
 set -e
 cd "$(dirname "$0")/../.."
-mkdir -p target/bench-settle
-for crate in bench_export report; do
-    rt staticlib $crate > target/bench-settle/$crate.log 2>&1 || { tail -5 target/bench-settle/$crate.log; exit 1; }
+mkdir -p target/bench-settle target/staticlib
+for crate in bench_export report_c; do
+    (cd crates/$crate && rt lib) > target/bench-settle/$crate.log 2>&1 || { tail -5 target/bench-settle/$crate.log; exit 1; }
+    cp crates/$crate/out/lib$crate.a target/staticlib/
 done
-kit=$(dirname "$(dirname "$(rt doc)")")
+kit=$(dirname "$(rt doc)")
 rustc --edition 2024 -C opt-level=3 -o target/bench-settle/bench bench/settle/main.rs -C link-arg=target/staticlib/libbench_export.a \
-    -C link-arg=target/staticlib/libreport.a -C link-arg="$kit/lib/librattle_c.a"
+    -C link-arg=target/staticlib/libreport_c.a -C link-arg="$kit/c/liblibc_c.a"
 target/bench-settle/bench "$@"

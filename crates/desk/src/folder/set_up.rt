@@ -48,7 +48,7 @@ impl<B: Book + Drop> Folder<B> {
         ensures hand { IfOk result (λ f. f.hand.items ≡ []) }
     {
         let room = Room::reserve(heap)?;
-        let sheet = Sheet::new(room, number, book);
+        let sheet = Sheet::in_room(room, number, book);
         Folder::hold(heap, sheet)
     }
 }
