@@ -4,5 +4,5 @@ use Rattle.commands.proofs.value.exact_text.Goals as goal
 
 pub returns : goal.returns
 returns c =
-    let front : string_bytes c.in-ok-text.text ≡ decimal (c.args.size / 16777216) ++ (46 ∷ []) = search rules in
-    c.in-ok-push-digits.ensures ∙ rw (front, append_assoc, ne_eqb (c.args.size % 16777216) 0 (λ z. omega arith))
+    let front : string_bytes c.in_ok-text.text ≡ decimal (c.args.size / 16777216) ++ (46 ∷ []) = search rules in
+    c.in_ok-push_digits.ensures ∙ rw (front, append_assoc, ne_eqb (c.args.size % 16777216) 0 (λ z. omega arith))
