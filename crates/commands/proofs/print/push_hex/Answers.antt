@@ -1,4 +1,4 @@
-use Rattle.std.proofs.Common.{arith, rules}
+use Rattle.std.proofs.Common.{arith}
 use Rattle.commands.proofs.Texts.{hex_all, hex_more}
 use Rattle.commands.proofs.print.push_hex.Goals as goal
 

@@ -1,5 +1,4 @@
-use Rattle.std.proofs.Common.{◌≡◌, [], ◌∷◌, ◌++◌, length, string_bytes, codes, decimal, ◌∙◌, append_assoc, rules}
-use Rattle.commands.specs.Prints.{hex_text}
+use Rattle.std.proofs.Common.{◌≡◌, [], ◌∷◌, ◌++◌, length, string_bytes, codes, decimal, rules}
 use Rattle.commands.proofs.Texts.{stored_whole}
 use Rattle.commands.proofs.print.stored_text.Goals as goal
 

@@ -1,4 +1,4 @@
-use Rattle.std.proofs.Common.{arith, rules}
+use Rattle.std.proofs.Common.{arith}
 use Rattle.commands.proofs.Runs.{first_word, no_word}
 use Rattle.commands.proofs.words.next_word.Goals as goal
 

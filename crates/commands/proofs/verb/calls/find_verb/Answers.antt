@@ -1,4 +1,4 @@
-use Rattle.std.proofs.Common.{sym, ap, ◌∙◌, arith, rules}
+use Rattle.std.proofs.Common.{sym, ap, ◌∙◌, arith}
 use Rattle.std.specs.Str.{bytes_eq}
 use Rattle.commands.proofs.Chains.{verb_here, verb_later, verb_none}
 use Rattle.commands.proofs.verb.calls.find_verb.Goals as goal
