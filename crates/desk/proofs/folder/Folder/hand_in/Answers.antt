@@ -1,7 +1,6 @@
 use Rattle.std.proofs.Common.{◌≡◌, vec_items, ap, arith}
 use Rattle.sheet.specs.declared.ticket.Ticket.{Ticket}
 use Rattle.runs.specs.Rounds.{meaning}
-use Rattle.desk.specs.declared.folder.Held.{Held}
 use Rattle.desk.proofs.Hands.{over, put_back, same_in_step, spent_in_step, stays}
 use Rattle.desk.proofs.folder.Folder.hand_in.Goals as goal
 

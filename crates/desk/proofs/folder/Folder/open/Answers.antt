@@ -1,4 +1,4 @@
-use Rattle.std.proofs.Common.{sym, refl, ap, arith}
+use Rattle.std.proofs.Common.{ap}
 use Rattle.runs.specs.Rounds.{meaning}
 use Rattle.desk.proofs.Hands.{begun, more_in_step, room_in_step}
 use Rattle.desk.proofs.folder.Folder.open.Goals as goal
