@@ -1,11 +1,11 @@
 -- What is read next: the steps of the definition, each from what was found.
-use Rattle.std.proofs.Common.{◌≡◌, ℕ, ◌+◌, ◌<◌, ◌≤◌, Bool, true, false, cond, List, [], ◌∷◌, length, get_or, drop, Some, None, Ok, Err, codes, Option, Result, sym, refl, ap, ◌∙◌}
+use Rattle.std.proofs.Common.{◌≡◌, ℕ, ◌+◌, ◌<◌, ◌≤◌, true, false, List, [], ◌∷◌, length, get_or, drop, Some, None, Ok, Err, codes, Result, sym, ap, ◌∙◌}
 use Rattle.std.specs.Str.{bytes_eq}
 use Rattle.std.proofs.lemmas.List.{at_drop_more, at_drop_all}
 use Rattle.commands.specs.declared.command.BookName.{BookName}
 use Rattle.commands.specs.declared.command.Unreadable.{Unreadable}
 use Rattle.commands.specs.declared.verb.Verb.{Verb}
-use Rattle.commands.specs.Meaning.{and_then, end, file, headed, heading, next_book, next_number}
+use Rattle.commands.specs.Meaning.{end, file, headed, heading, next_book, next_number}
 use Rattle.commands.specs.Numbers.{is_hex, number}
 use Rattle.commands.specs.Verbs.{found, spelled}
 

@@ -3,7 +3,7 @@ use Rattle.std.proofs.Common.{◌≡◌, ℕ, suc, ◌+◌, ◌<◌, ◌≤◌, 
 use mathlib.Core.Bool.{beq}
 use Rattle.std.proofs.lemmas.List.{at_drop_more, at_drop_all, length-drop, length-take-le, nil_from_length}
 use Rattle.std.proofs.lemmas.Bool.{cases_Bool}
-use Rattle.commands.specs.Words.{filled, onto, pieces, run, words}
+use Rattle.commands.specs.Words.{filled, pieces, run, words}
 
 -- One more byte, or the run's end.
 pub run_spaces : (l : List ℕ) (i : ℕ) → i < length l → run true (drop i l) ≡ cond (eqb (get_or l i 0) 32) (suc (run true (drop (i + 1) l))) 0

@@ -1,5 +1,5 @@
 -- What calls leave of a hand that is in step with its sheet.
-use Rattle.std.proofs.Common.{◌≡◌, ℕ, suc, ◌+◌, ◌<◌, ◌≤◌, Bool, true, false, cond, not, ◌||◌, eqb, ltb, List, [], ◌∷◌, ◌++◌, length, get_or, take, drop, Some, None, Ok, Err, Option, Result, sym, refl, ap, ◌∙◌, subst, inl, inr, arith, drop-cons}
+use Rattle.std.proofs.Common.{◌≡◌, ℕ, suc, ◌+◌, ◌<◌, ◌≤◌, Bool, true, false, cond, not, ◌||◌, eqb, ltb, List, [], ◌∷◌, ◌++◌, length, get_or, take, drop, Some, None, Ok, Err, Option, Result, sym, refl, ap, ◌∙◌, inl, inr, arith, drop-cons}
 use mathlib.Core.Bool.{Bool-set}
 use mathlib.Core.Logic.{∥∥₁_elim, ∥∥₁_map}
 use native.Mathlib.Nat.{ℕ_set}
@@ -10,12 +10,11 @@ use Rattle.windows.specs.Meanings.{Meaning}
 use Rattle.law.specs.declared.calls.Answer.{Answer}
 use Rattle.law.specs.declared.calls.Call.{Call}
 use Rattle.law.specs.declared.calls.Refusal.{Refusal}
-use Rattle.law.specs.declared.table.Check.{Check}
 use Rattle.law.specs.Law.{Called}
-use Rattle.law.specs.Sheets.{Core, Model, empty, most_tries}
+use Rattle.law.specs.Sheets.{Core, Model}
 use Rattle.law.specs.Sound.{Sound}
-use Rattle.law.specs.Steps.{Does, Steps, Reached, refused, does, set_up}
-use Rattle.law.specs.Table.{check, checks, first, is_barren, ticket_cases, verdict, wrong_ticket}
+use Rattle.law.specs.Steps.{Does, Steps, refused, does, set_up}
+use Rattle.law.specs.Table.{checks, first, is_barren, ticket_cases, verdict, wrong_ticket}
 use Rattle.law.proofs.Sheets.{all_sound}
 use Rattle.law.proofs.Verdicts.{open_taken}
 use Rattle.sheet.specs.declared.ticket.Returned.{Returned}
@@ -27,7 +26,7 @@ use Rattle.desk.specs.declared.folder.Held.{Held}
 use Rattle.desk.specs.declared.folder.calls.Plain.{Plain}
 use Rattle.desk.specs.declared.folder.tickets.Ending.{Ending}
 use Rattle.desk.specs.Endings.{call_by, ended}
-use Rattle.desk.specs.Hands.{Agrees, InStep, Stacked, call_of}
+use Rattle.desk.specs.Hands.{Agrees, InStep, call_of}
 
 -- A plain call opens and closes no try.
 does_kept : (m : Meaning) (id : ℕ) (s : Model) (p : Plain) (t : Model) (a : Answer) → Does m id s (call_of p) t a → length t.saved ≡ length s.saved

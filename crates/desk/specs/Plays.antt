@@ -5,7 +5,6 @@
 -- Assumes nothing.
 use Rattle.std.specs.Prelude.{◌≡◌, ℕ, true, false, List, [], ◌∷◌, ◌++◌, length, Some, None, Ok, Err, Option, Result}
 use Rattle.std.specs.declared.alloc.AllocError.{AllocError}
-use Rattle.windows.specs.Spans.{Span}
 use Rattle.law.specs.declared.calls.Answer.{Answer}
 use Rattle.law.specs.Law.{Called}
 use Rattle.law.specs.Refusals as refusals

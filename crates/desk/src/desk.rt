@@ -1,7 +1,7 @@
 //! The desk: sheets by their numbers, the last of which is the present one, and the tickets of all open tries in hand.
 use crate::tended::Tended;
 
-mod commands;
+mod plays;
 mod sheets;
 mod tickets;
 

@@ -11,7 +11,7 @@ use books::book::Book;
 use sheet::sheet::Sheet;
 use std::alloc::{AllocError, Global};
 use stored::fault::LoadFault;
-use stored::load::{Loaded, load};
+use stored::load::{Loaded, load_in};
 use tables::room::Room;
 
 /// How many tickets a folder has room for: a sheet opens no more tries.
@@ -67,7 +67,7 @@ impl<B: Book + Drop> Folder<B> {
         ensures hand { IfOk result (λ f. f.folder.hand.items ≡ []) }
     {
         let room = Room::reserve(heap)?;
-        let Loaded { sheet, fault } = load(room, number, book, bytes);
+        let Loaded { sheet, fault } = load_in(room, number, book, bytes);
         let folder = Folder::hold(heap, sheet)?;
         Ok(Filed { folder, fault })
     }

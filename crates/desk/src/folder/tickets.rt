@@ -65,8 +65,8 @@ impl<B: Book> Folder<B> {
 
     /// Hands one of the folder's own tickets to its sheet. It comes back with a refusal, and is put back.
     pub(crate) fn hand_in(&mut self, at: usize, ending: Ending) -> Result<(), Refusal>
-        requires in_step_2 { InStep (meaning B.top B.arity B.counts (B.related self.old.sheet.book)) self.old.sheet.number (model self.old.sheet.tables) self.old.hand.items (vec_capacity self.old.hand) }
-        requires at_in_bounds { at < vec_len self.old.hand }
+        requires in_step { InStep (meaning B.top B.arity B.counts (B.related self.old.sheet.book)) self.old.sheet.number (model self.old.sheet.tables) self.old.hand.items (vec_capacity self.old.hand) }
+        requires within { at < vec_len self.old.hand }
         ensures in_step { InStep (meaning B.top B.arity B.counts (B.related self.new.sheet.book)) self.new.sheet.number (model self.new.sheet.tables) self.new.hand.items (vec_capacity self.new.hand) }
         ensures number { self.new.sheet.number ≡ self.old.sheet.number }
         ensures book { self.new.sheet.book ≡ self.old.sheet.book }

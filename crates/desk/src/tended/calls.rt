@@ -56,8 +56,8 @@ impl Tended {
 
     /// Hands a ticket of another sheet to this one.
     pub(crate) fn hand_over(&mut self, source: &mut Tended, at: usize, ending: Ending) -> Refusal
-        requires at_in_bounds { at < length (hand_of source.old) }
-        requires self_nonzero { number_of self.old ≢ number_of source.old }
+        requires within { at < length (hand_of source.old) }
+        requires apart { number_of self.old ≢ number_of source.old }
         ensures number { number_of self.new ≡ number_of self.old }
         ensures source { number_of source.new ≡ number_of source.old }
     {

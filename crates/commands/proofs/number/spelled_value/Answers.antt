@@ -2,8 +2,8 @@ use Rattle.std.proofs.Common.{sym, ◌∙◌, arith}
 use Rattle.commands.proofs.Digits.{digit_at, grown, small_no, small_yes, spells_all, spells_step}
 use Rattle.commands.proofs.number.spelled_value.Goals as goal
 
-pub overflow-sub-value : goal.overflow-sub-value
-overflow-sub-value c = omega (arith, digit_at c.args.digits.now c.loop-digit.digit-index (omega arith) c.loop-digit.invariant.2)
+pub overflow_sub-value : goal.overflow_sub-value
+overflow_sub-value c = omega (arith, digit_at c.args.digits.now c.loop-digit.digit-index (omega arith) c.loop-digit.invariant.2)
 
 pub returns-then-value-gt4294967295 : goal.returns-then-value-gt4294967295
 returns-then-value-gt4294967295 c =

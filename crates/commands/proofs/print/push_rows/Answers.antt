@@ -1,11 +1,11 @@
-use Rattle.std.proofs.Common.{◌∙◌, arith, rules}
+use Rattle.std.proofs.Common.{arith}
 use Rattle.commands.proofs.Texts.{rows_all, rows_more}
 use Rattle.commands.proofs.print.push_rows.Goals as goal
 
 pub loop-window-preserved : goal.loop-window-preserved
 loop-window-preserved c = (
   rows_more _ _ _ c.args.windows.now c.loop-window.window-index _ c.window-item.result (omega arith) c.window-item.is
-      c.in-ok-push-row.ensures c.loop-window.invariant.0,
+      c.in_ok-push_row.ensures c.loop-window.invariant.0,
   omega arith,
 )
 

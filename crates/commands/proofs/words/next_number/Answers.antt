@@ -1,8 +1,8 @@
 use Rattle.commands.proofs.Chains.{number_missing, number_read, number_unread}
 use Rattle.commands.proofs.words.next_number.Goals as goal
 
-pub returns-in-default : goal.returns-in-default
-returns-in-default c = number_missing _ c.in-default.ensures
+pub returns-in_default : goal.returns-in_default
+returns-in_default c = number_missing _ c.in_default.ensures
 
 pub returns-in-Ok : goal.returns-in-Ok
 returns-in-Ok c = number_read _ _ _ _ c.in-Some.ensures c.in-Ok.ensures

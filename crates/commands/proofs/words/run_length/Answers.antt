@@ -1,4 +1,4 @@
-use Rattle.std.proofs.Common.{arith, rules}
+use Rattle.std.proofs.Common.{arith}
 use Rattle.commands.proofs.Runs.{run_again, run_ends, run_none}
 use Rattle.commands.proofs.words.run_length.Goals as goal
 

@@ -7,11 +7,11 @@ pub returns : goal.returns
 returns c =
     record {
       present =
-          present (vec_items c.pop.new.self) c.in-Some.present c.plain.new.self c.in-Some.ensures.items c.push-reserved.ensures.items
+          present (vec_items c.pop.new.self) c.in-Some.present c.plain.new.self c.in-Some.ensures.items c.push_reserved.ensures.items
           (record {
             answer = c.plain.result;
             called = c.plain.ensures.called;
-            said = c.reply-to-reply.ensures;
+            said = c.reply_to-reply.ensures;
             number = c.plain.ensures.number;
             hand = c.plain.ensures.hand;
           });

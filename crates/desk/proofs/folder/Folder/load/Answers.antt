@@ -7,6 +7,6 @@ pub hold-requires : goal.hold-requires
 hold-requires g c =
     record {
       sound =
-          sound_moved (ap (λ b. meaning g.B.Book.top g.B.Book.arity g.B.Book.counts (g.B.Book.related b)) c.load-sheet.ensures.book)
-          (loaded_sound _ _ _ _ _ c.load-sheet.ensures.loaded);
+          sound_moved (ap (λ b. meaning g.B.Book.top g.B.Book.arity g.B.Book.counts (g.B.Book.related b)) c.load_in-sheet.ensures.book)
+          (loaded_sound _ _ _ _ _ c.load_in-sheet.ensures.loaded);
     }

@@ -5,4 +5,4 @@ use Rattle.desk.proofs.Hands.{sound_moved}
 use Rattle.desk.proofs.folder.Folder.new.Goals as goal
 
 pub hold-requires : goal.hold-requires
-hold-requires g c = record { sound = sound_moved (ap (λ b. meaning g.B.Book.top g.B.Book.arity g.B.Book.counts (g.B.Book.related b)) c.new-sheet.ensures.book) (all_sound c.new-sheet.ensures.reached) }
+hold-requires g c = record { sound = sound_moved (ap (λ b. meaning g.B.Book.top g.B.Book.arity g.B.Book.counts (g.B.Book.related b)) c.in_room-sheet.ensures.book) (all_sound c.in_room-sheet.ensures.reached) }

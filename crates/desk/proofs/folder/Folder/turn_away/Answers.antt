@@ -20,11 +20,11 @@ returns g c =
           c.requires.own;
       theirs =
           same_in_step refl refl refl
-          (put_back (vec_items c.args.source.now.hand) (vec_items c.remove-place.new.self) (vec_items c.put-back.new.hand) c.args.at
+          (put_back (vec_items c.args.source.now.hand) (vec_items c.remove-place.new.self) (vec_items c.put_back.new.hand) c.args.at
           c.remove-place.result (record { place = c.remove-place.result.place; ticket = c.in-Err.field-0.ticket })
           (omega (arith, c.args.source.now.hand.ok.0, c.requires.within)) c.remove-place.ensures.value c.remove-place.ensures.items
-          (ap (λ (t : Ticket). record { place = c.remove-place.result.place; ticket = t }) back) c.put-back.ensures.items)
-          (omega (arith, c.put-back.ensures.room, c.remove-place.ensures.capacity)) c.requires.theirs;
+          (ap (λ (t : Ticket). record { place = c.remove-place.result.place; ticket = t }) back) c.put_back.ensures.items)
+          (omega (arith, c.put_back.ensures.room, c.remove-place.ensures.capacity)) c.requires.theirs;
       number = c.give.ensures.number;
       sheet = refl;
     }
