@@ -12,7 +12,7 @@ ghost use Rattle.books.specs.HalfBooks.{HalfMeets, half_lines};
 ghost use Rattle.bench_export.specs.Told.{Told};
 
 use books::counter::CounterBook;
-use books::half::HalfBook;
+use books::half_book::HalfBook;
 use ends::Ends;
 use tell::narrow_ends;
 

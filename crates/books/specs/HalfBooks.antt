@@ -8,8 +8,8 @@ use Rattle.std.specs.Prelude.{ℕ, List}
 use Rattle.half.specs.Formats.{half}
 use Rattle.half.specs.Roundings.{product, sum}
 use Rattle.half.specs.declared.mode.Mode.{Mode}
-use Rattle.books.specs.declared.half.BookFault.{BookFault}
-use Rattle.books.specs.declared.half.BookFault.TheVariants.{NoMode}
+use Rattle.books.specs.declared.half_book.BookFault.{BookFault}
+use Rattle.books.specs.declared.half_book.BookFault.TheVariants.{NoMode}
 use Rattle.books.specs.Kinds.{among, lines_of, MeetsOf, two_to_five}
 
 -- Of a kind that the book has not got, 0.

@@ -5,7 +5,7 @@
 pub mod book;
 mod close;
 pub mod counter;
-pub mod half;
+pub mod half_book;
 mod kind;
 pub mod narrowing;
 pub mod theorems;

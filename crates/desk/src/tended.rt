@@ -6,7 +6,7 @@ ghost use Rattle.std.specs.Prelude.{vec_capacity};
 
 use crate::folder::Folder;
 use books::counter::CounterBook;
-use books::half::HalfBook;
+use books::half_book::HalfBook;
 
 mod calls;
 pub(crate) mod reads;

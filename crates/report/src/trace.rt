@@ -15,7 +15,7 @@ use crate::outcome::Outcome;
 use crate::text::write_report;
 use books::book::Book;
 use books::counter::CounterBook;
-use books::half::HalfBook;
+use books::half_book::HalfBook;
 use law::calls::Refusal;
 use runs::settled::Settled;
 use sheet::sheet::Sheet;

@@ -5,7 +5,7 @@ ghost use Rattle.desk.specs.Desks.{Seated};
 use super::Desk;
 use crate::tended::Tended;
 use crate::tended::reads::{Loading, Opened};
-use books::half::{BookFault, HalfBook};
+use books::half_book::{BookFault, HalfBook};
 use commands::command::BookName;
 use commands::reply::{Fault, Reply};
 use std::alloc::{AllocError, Global};

@@ -9,7 +9,7 @@ use super::{CounterFolder, HalfFolder, Tended};
 use crate::folder::Folder;
 use crate::folder::set_up::Filed;
 use books::counter::CounterBook;
-use books::half::HalfBook;
+use books::half_book::HalfBook;
 use commands::value::End;
 use law::calls::{Refusal, State};
 use std::alloc::{AllocError, Global};
