@@ -67,13 +67,13 @@ buffer drive mode s out (Err why) = out
 abbrev pub unsettled : Core → Core
 unsettled c = record { state = State.Unsettled; windows = c.windows; rules = c.rules }
 
--- A load of the bytes, with the number id and the same book, has no fault and gives the same windows and rules.
+-- A load of the first n bytes of the buffer, with the same number and book, has no fault and gives the same windows and rules.
 pub record ComesBack (m : Meaning) (id drive mode : ℕ) (c : Core) (bytes : List ℕ) : Type 0 where
   pub reached : Progress
   pub loaded : loads m id drive mode bytes ≡ Ok reached
   pub same : reached.sheet ≡ record { core = unsettled c; saved = [] }
 
--- What was stored comes back from the first n bytes of the buffer, for every sheet that a history leads to.
+-- What was stored comes back, for every sheet that a history leads to.
 abbrev pub Back : Meaning → (id drive mode : ℕ) → Model → List ℕ → ℕ → Type 0
 Back m id drive mode s out n = (h : History) → Reached m id h s → ComesBack m id drive mode s.core (take n out)
 
