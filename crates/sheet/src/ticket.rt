@@ -1,4 +1,6 @@
 //! The ticket of a try: a token that is spent in the end by keep or strike.
+ghost use Rattle.std.specs.Prelude.{◌≡◌};
+
 use law::calls::Refusal;
 
 /// What an open answers: the number of its sheet and the depth of its try. Only a sheet makes one, and none may be let go.
@@ -8,8 +10,9 @@ pub struct Ticket {
 }
 
 impl Drop for Ticket {
+    /// Lets go a ticket of no try: the depth of a try is above 0, and so is that of each ticket that a sheet makes.
     fn drop(self)
-        requires { ⊥ }
+        requires { self.depth ≡ 0 }
     {
         let Ticket {
             number: _,
