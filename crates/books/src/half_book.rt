@@ -84,11 +84,6 @@ impl Book for HalfBook {
     }
 }
 
-// The constants are what the functions answer: the top code and the drive's number.
-const _: () = prove!(HalfBook::TOP == 31743);
-
-const _: () = prove!(HalfBook::DRIVE == 0);
-
 impl HalfBook {
     /// The book of the mode with this number; a number above 2 is refused.
     pub fn new(mode: u8) -> Result<HalfBook, BookFault>
