@@ -1,10 +1,10 @@
 -- The walks to the least and the greatest result of all hits, through bands that shrink. Assumes nothing.
-use Rattle.std.proofs.Common.{◌≡◌, ℕ, ◌+◌, ◌-◌, ◌<◌, ◌≤◌, sym, refl, ◌∙◌, le_refl, arith}
+use Rattle.std.proofs.Common.{◌≡◌, ℕ, ◌+◌, ◌-◌, ◌<◌, ◌≤◌, sym, refl, le_refl, arith}
 use native.Mathlib.Decide.{dec_le}
 use Rattle.codes.specs.Operations.{Rises}
 use Rattle.boxes.specs.declared.field.Field.{Field}
 use Rattle.boxes.specs.declared.field.Point.{Point}
-use Rattle.boxes.specs.Walks.{Reaches, Hit, Bounds, Corner, Lowest, Rightmost, Met, Least, Greatest, Part}
+use Rattle.boxes.specs.Walks.{Reaches, Hit, Corner, Lowest, Rightmost, Least, Greatest, Part}
 
 -- The best so far is a hit, and every hit with a lesser result lies right of it and below it.
 pub record Falling (f : ℕ → ℕ → ℕ) (p : Field) (best : Point) : Type 0 where

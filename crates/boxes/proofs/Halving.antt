@@ -1,5 +1,5 @@
 -- What a search keeps true while it closes in on the place where a row of results comes to t. Assumes nothing.
-use Rattle.std.proofs.Common.{◌≡◌, ℕ, suc, ◌+◌, ◌-◌, ◌<◌, ◌≤◌, le_refl, arith}
+use Rattle.std.proofs.Common.{◌≡◌, ℕ, ◌+◌, ◌-◌, ◌<◌, ◌≤◌, le_refl, arith}
 use native.Mathlib.Decide.{dec_le}
 use Rattle.codes.specs.Operations.{Rises}
 use Rattle.boxes.specs.Walks.{Reaches}

@@ -1,5 +1,5 @@
 -- The steps of a walk to the corner of all hits, for an operation f that never falls. Assumes nothing.
-use Rattle.std.proofs.Common.{◌≡◌, ℕ, ◌+◌, ◌-◌, ◌<◌, ◌≤◌, le_refl, arith}
+use Rattle.std.proofs.Common.{ℕ, ◌+◌, ◌<◌, ◌≤◌, le_refl, arith}
 use native.Mathlib.Decide.{dec_le}
 use Rattle.codes.specs.Operations.{Rises}
 use Rattle.boxes.specs.declared.field.Field.{Field}

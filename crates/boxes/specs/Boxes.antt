@@ -1,7 +1,7 @@
 -- The smallest box of an operation f over three intervals of codes.
 -- A choice is a code of the first, a code of the second and a code of the third interval, the third being f of the first two.
 -- Assumes nothing.
-use Rattle.std.specs.Prelude.{◌≡◌, ℕ, ◌<◌, ◌≤◌, cond, ◌&&◌, ltb, leb, Some, None, Option}
+use Rattle.std.specs.Prelude.{◌≡◌, ℕ, ◌≤◌, Some, None, Option}
 use Rattle.boxes.specs.declared.interval.Interval.{Interval}
 use Rattle.boxes.specs.declared.cuboid.Cuboid.{Cuboid}
 

@@ -1,7 +1,7 @@
 -- What an operation on codes is.
 -- A code is a whole number from 0 to the top code of its drive; "over" is top + 1, which no line can have.
 -- Assumes nothing.
-use Rattle.std.specs.Prelude.{ℕ, ◌+◌, ◌≤◌, min, max, Bool, cond, ◌&&◌, leb}
+use Rattle.std.specs.Prelude.{ℕ, ◌+◌, ◌≤◌, min, max, cond, ◌&&◌, leb}
 
 -- The answer "over" of a drive with this top code.
 abbrev pub over : ℕ → ℕ

@@ -1,6 +1,6 @@
 -- Cutting an exact result down to a drive's codes keeps the law of operations. Assumes nothing.
 use Rattle.std.specs.Prelude.{ℕ, ◌≤◌}
-use Rattle.std.proofs.Common.{arith, rules}
+use Rattle.std.proofs.Common.{rules}
 use Rattle.codes.specs.Operations.{within}
 
 -- If neither the arguments nor the exact result fall, the code does not fall.

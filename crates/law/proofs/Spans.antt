@@ -2,8 +2,8 @@
 --   within   as many windows, each inside the one at its place
 --   put      windows written back to the lines of the given numbers
 -- Assumes nothing.
-use Rattle.std.proofs.Common.{◌≡◌, ℕ, zero, suc, ◌-◌, ◌<◌, List, [], ◌∷◌, ◌++◌, map, length, get_or, set, refl, ap, ap₂, suc-le-suc, zero-le, le_refl, arith}
-use Rattle.windows.specs.Spans.{Span, In, Inside, Each, nowhere, Every, Within}
+use Rattle.std.proofs.Common.{ℕ, ◌-◌, List, [], ◌∷◌, map, set}
+use Rattle.windows.specs.Spans.{Span, Every, Within}
 use Rattle.windows.proofs.Spans.{every_set, set_within, within_at, within_set}
 use Rattle.law.specs.Sheets.{window, put}
 

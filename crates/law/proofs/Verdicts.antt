@@ -2,7 +2,7 @@
 -- Assumes nothing.
 use Rattle.std.proofs.Common.{◌≡◌, ℕ, ◌<◌, ◌≤◌, Bool, true, false, cond, not, ◌&&◌, ◌||◌, eqb, ltb, leb, List, [], ◌∷◌, length, Some, None, Option, sym, refl, ap, ◌∙◌, arith}
 use Rattle.std.proofs.lemmas.Bool.{or_parts, ltb-false, leb-false, eqb-true, eqb-false, eq-eqb, not-false}
-use Rattle.windows.specs.Spans.{Span, Every}
+use Rattle.windows.specs.Spans.{Every}
 use Rattle.windows.specs.Meanings.{Meaning}
 use Rattle.windows.proofs.Spans.{every_map}
 use Rattle.law.specs.declared.calls.Rule.{Rule}

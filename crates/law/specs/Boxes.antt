@@ -3,8 +3,8 @@
 --   held     each end of each of a rule's windows belongs to a satisfying choice in the box
 --   stands   the box holds every rule so
 -- Assumes nothing.
-use Rattle.std.specs.Prelude.{ℕ, ◌<◌, ◌≤◌, List, [], ◌∷◌, length, slice_index_or}
-use Rattle.windows.specs.Spans.{Span, Inside, nowhere, Every, Ordered, Within}
+use Rattle.std.specs.Prelude.{ℕ, ◌<◌, List, length, slice_index_or}
+use Rattle.windows.specs.Spans.{Span, nowhere, Every, Ordered, Within}
 use Rattle.windows.specs.Choices.{EndsSupported}
 use Rattle.windows.specs.Meanings.{Meaning}
 use Rattle.law.specs.declared.calls.Rule.{Rule}

@@ -3,7 +3,7 @@
 --   saved    a core put aside by the open of a try that is still open, innermost try first
 --   number   lines and rules are numbered from 1 in order of arrival
 -- Assumes nothing of a sheet: the definitions give each number a meaning, also where no line has it.
-use Rattle.std.specs.Prelude.{ℕ, ◌-◌, min, max, List, [], ◌∷◌, map, take, set, slice_index_or, slice_set}
+use Rattle.std.specs.Prelude.{ℕ, ◌-◌, min, max, List, [], ◌∷◌, map, take, slice_index_or, slice_set}
 use Rattle.windows.specs.Spans.{Span, nowhere}
 use Rattle.windows.specs.Meanings.{Meaning}
 use Rattle.law.specs.declared.calls.State.{State}

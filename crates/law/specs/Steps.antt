@@ -3,7 +3,7 @@
 --   steps    what any call does: a refusal leaves the sheet as it was
 --   reached  the sheet that a history leads to, from a sheet just set up
 -- id is the sheet's number. Assumes nothing.
-use Rattle.std.specs.Prelude.{◌≡◌, ℕ, ◌+◌, ◌-◌, [], ◌∷◌, ◌++◌, length, drop, set, Some, None, slice_index_or, slice_set}
+use Rattle.std.specs.Prelude.{◌≡◌, ℕ, ◌+◌, ◌-◌, [], ◌∷◌, ◌++◌, length, drop, Some, None, slice_index_or, slice_set}
 use Rattle.windows.specs.Meanings.{Meaning}
 use Rattle.law.specs.declared.calls.State.{State}
 use Rattle.law.specs.declared.calls.Rule.{Rule}

@@ -1,12 +1,11 @@
 -- A trace has one outcome. Assumes nothing.
-use Rattle.std.proofs.Common.{◌≡◌, ℕ, ◌<◌, ◌≤◌, List, length, Ok, Err, Result, sym, refl, ap, ◌∙◌, subst, ap₂, arith}
+use Rattle.std.proofs.Common.{◌≡◌, ℕ, ◌≤◌, List, length, Result, sym, refl, ap, ◌∙◌, subst, ap₂, arith}
 use Rattle.half.specs.Roundings.{mode_number}
 use Rattle.half.specs.declared.mode.Mode.{Mode}
 use Rattle.half.specs.declared.mode.Mode.TheVariants.{TowardZero, Nearest, Up}
 use Rattle.windows.specs.Meanings.{Meaning}
 use Rattle.windows.specs.Spans.{Span}
 use Rattle.law.specs.declared.calls.Rule.{Rule}
-use Rattle.law.specs.Runs.{Ending}
 use Rattle.law.specs.Steps.{told}
 use Rattle.law.proofs.Runs.{unique_ending}
 use Rattle.runs.specs.declared.settled.Settled.{Settled}
@@ -14,11 +13,10 @@ use Rattle.runs.specs.Rounds.{Finished, answered, left_by}
 use Rattle.stored.specs.declared.fault.LoadFault.{LoadFault}
 use Rattle.stored.specs.Faults.{load_at, load_number}
 use Rattle.stored.specs.Loads.{Progress, loads}
-use Rattle.stored.specs.Records.{byte}
 use Rattle.report.specs.declared.outcome.Outcome.{Outcome}
 use Rattle.report.specs.Adding.{over}
 use Rattle.report.specs.Report.{report}
-use Rattle.report.specs.Traces.{Comes, OutcomeOf, Reported, SettlesTo, TraceIn, UniqueTrace, allowance, half_meaning}
+use Rattle.report.specs.Traces.{Comes, OutcomeOf, UniqueTrace, allowance, half_meaning}
 use Rattle.report.specs.Traces.{by_counter, by_half, by_none, refused as faulted, settles, below, written}
 
 -- An answer of settle is known by the answer of the call.

@@ -7,7 +7,6 @@ use Rattle.windows.proofs.Spans.{within_refl, every_map}
 use Rattle.law.specs.declared.calls.Answer.{Answer}
 use Rattle.law.specs.declared.calls.Call.{Call}
 use Rattle.law.specs.declared.calls.Refusal.{Refusal}
-use Rattle.law.specs.declared.calls.Rule.{Rule}
 use Rattle.law.specs.declared.calls.State.{State}
 use Rattle.law.specs.Law.{Called}
 use Rattle.law.specs.Runs.{Ending, standing, spent, barren, EndsWith}

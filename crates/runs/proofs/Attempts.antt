@@ -1,16 +1,16 @@
 -- What a book's answer to the windows of a rule says of the rule's try. Assumes nothing.
-use Rattle.std.proofs.Common.{◌≡◌, ℕ, ◌<◌, ◌≤◌, ◌⊎◌, List, [], ◌∷◌, ◌++◌, map, length, take, drop, sym, refl, ap, ◌∙◌, subst, ap₂, subst₂, inl, inr, arith, take-append-drop}
+use Rattle.std.proofs.Common.{◌≡◌, ℕ, ◌<◌, ◌⊎◌, List, [], ◌∷◌, ◌++◌, map, length, sym, ap, ◌∙◌, subst, ap₂, subst₂, inl, inr, arith, take-append-drop}
 use Rattle.std.proofs.lemmas.List.{take-map}
 use Rattle.windows.specs.Spans.{Span, Every}
 use Rattle.windows.specs.Choices.{NoChoice, Smallest}
 use Rattle.windows.specs.Meanings.{Meaning}
 use Rattle.books.specs.declared.narrowing.Triple.{Triple}
 use Rattle.books.specs.declared.narrowing.Narrowing.{Narrowing}
-use Rattle.books.specs.Narrowings.{Answered, Closes, Fit, UpTo, read, passed, spans}
+use Rattle.books.specs.Narrowings.{Answered, Closes, Fit, UpTo, read, spans}
 use Rattle.law.specs.declared.calls.Rule.{Rule}
 use Rattle.law.specs.Sheets.{window, named, windows_of}
 use Rattle.law.specs.Runs.{HasNone, Still, Narrows}
-use Rattle.law.specs.Sound.{Fits, IsLine, FitRule}
+use Rattle.law.specs.Sound.{Fits, FitRule}
 use Rattle.runs.specs.Rounds.{FitTry}
 use Rattle.law.proofs.Endings.{windows_fit_at}
 

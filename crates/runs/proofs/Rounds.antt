@@ -1,5 +1,5 @@
 -- What a round keeps true from rule to rule. Assumes nothing.
-use Rattle.std.proofs.Common.{◌≡◌, ℕ, zero, suc, ◌+◌, ◌-◌, ◌<◌, ◌≤◌, Bool, true, false, not, List, [], ◌∷◌, length, get_or, drop, sym, refl, ap, ◌∙◌, subst, subst₂, add-zero, add-one, arith}
+use Rattle.std.proofs.Common.{◌≡◌, ℕ, zero, suc, ◌+◌, ◌-◌, ◌<◌, ◌≤◌, Bool, true, false, List, ◌∷◌, length, get_or, drop, sym, refl, ap, subst, add-zero, add-one, arith}
 use Rattle.std.proofs.lemmas.List.{drop_more, drop_all}
 use Rattle.windows.specs.Spans.{Span, Every}
 use Rattle.windows.specs.Meanings.{Meaning}
@@ -8,7 +8,7 @@ use Rattle.law.specs.declared.calls.Rule.{Rule}
 use Rattle.law.specs.Sheets.{named, put}
 use Rattle.law.specs.Runs.{Ending, standing, spent, barren, HasNone, Still, Narrows, Run}
 use Rattle.law.specs.Runs.Run.{none, still, narrows, too_many, next_round, quiet}
-use Rattle.law.specs.Sound.{Fits, FitRule}
+use Rattle.law.specs.Sound.{FitRule}
 use Rattle.law.proofs.Endings.{Good, good_narrowed}
 use Rattle.law.specs.declared.calls.Answer.{Answer}
 use Rattle.runs.specs.declared.settled.Settled.{Settled}

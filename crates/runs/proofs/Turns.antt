@@ -1,6 +1,6 @@
 -- The turns of a round: rules that are asleep are passed over, one that was tried goes to sleep.
 -- Assumes that the naming lists every rule at its lines.
-use Rattle.std.proofs.Common.{◌≡◌, ℕ, suc, ◌+◌, ◌<◌, ◌≤◌, Bool, true, false, List, length, get_or, Some, None, sym, refl, ap, ◌∙◌, subst, arith}
+use Rattle.std.proofs.Common.{◌≡◌, ℕ, ◌+◌, ◌<◌, ◌≤◌, Bool, true, List, length, get_or, Some, None, sym, subst, arith}
 use Rattle.windows.specs.Spans.{Span}
 use Rattle.windows.specs.Meanings.{Meaning}
 use Rattle.law.specs.declared.calls.Rule.{Rule}

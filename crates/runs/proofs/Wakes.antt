@@ -1,13 +1,13 @@
 -- Rules that wake, and rules that stay still.
 --   asleep   a rule that is not awake
 -- Assumes what each lemma states.
-use Rattle.std.proofs.Common.{◌≡◌, ℕ, zero, suc, ◌+◌, ◌-◌, ◌<◌, ◌≤◌, Bool, true, false, ◌||◌, eqb, ◌≢◌, ◌⊎◌, List, [], ◌∷◌, ◌++◌, map, length, get_or, take, drop, set, sym, refl, ap, ◌∙◌, subst, ap₂, subst₂, inl, inr, arith, length-set, take-append-drop}
+use Rattle.std.proofs.Common.{◌≡◌, ℕ, ◌-◌, ◌<◌, ◌≤◌, true, false, ◌||◌, eqb, List, [], ◌∷◌, ◌++◌, map, length, get_or, take, drop, set, sym, refl, ap, ◌∙◌, subst, ap₂, inl, inr, arith, length-set, take-append-drop}
 use lib.ListN.{length-map}
 use borrow.Author.Tests.{eqb-false}
 use Rattle.std.proofs.lemmas.List.{get_or-set_same, get_or-set_other}
 use Rattle.std.proofs.lemmas.Bool.{cases_eq, cases_lt, cases_Bool, both_ways, or_left, or_right, or_parts}
-use Rattle.windows.specs.Spans.{Span, Every, Each, nowhere}
-use Rattle.windows.specs.Choices.{Choice, Supported, EndsSupported, Smallest}
+use Rattle.windows.specs.Spans.{Span, Every, nowhere}
+use Rattle.windows.specs.Choices.{Choice, Supported, Smallest}
 use Rattle.windows.specs.Meanings.{Meaning}
 use Rattle.windows.proofs.Spans.{every_at, every_left}
 use Rattle.law.specs.declared.calls.Rule.{Rule}

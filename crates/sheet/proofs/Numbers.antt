@@ -1,12 +1,12 @@
 -- Counts and windows after a call. Assumes nothing.
-use Rattle.std.proofs.Common.{◌≡◌, ℕ, ◌+◌, ◌≤◌, min, max, Bool, true, false, cond, not, ◌||◌, eqb, List, [], ◌∷◌, ◌++◌, length, Some, None, vec_items, vec_len, Option, sym, refl, ap, ◌∙◌, arith, length-append}
+use Rattle.std.proofs.Common.{◌≡◌, ℕ, ◌+◌, ◌≤◌, min, max, Bool, true, false, cond, not, ◌||◌, eqb, [], ◌∷◌, length, Some, None, vec_len, sym, ap, ◌∙◌, arith, length-append}
 use Rattle.std.proofs.lemmas.Bool.{eq-eqb, ne_eqb}
 use Rattle.windows.specs.Spans.{Span}
 use Rattle.windows.specs.Windows.{spanning}
 use Rattle.law.specs.declared.calls.Refusal.{Refusal}
 use Rattle.law.specs.declared.calls.Rule.{Rule}
 use Rattle.law.specs.declared.calls.State.{State}
-use Rattle.law.specs.Sheets.{Core, Model, between, cut}
+use Rattle.law.specs.Sheets.{Model, between, cut}
 use Rattle.law.specs.Steps.{with_core}
 use Rattle.law.specs.Table.{first, ticket_cases, wrong_ticket}
 use Rattle.tables.specs.declared.tables.Tables.{Tables}

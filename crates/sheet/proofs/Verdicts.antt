@@ -1,5 +1,5 @@
 -- The verdict on each call, in terms of what the tables hold; and what it makes of the call. Assumes nothing.
-use Rattle.std.proofs.Common.{◌≡◌, ℕ, Bool, true, false, List, [], ◌∷◌, map, reverse, length, Some, None, Ok, Err, vec_items, vec_len, Option, Result, sym, refl, ap, ◌∙◌, ap₂, arith}
+use Rattle.std.proofs.Common.{◌≡◌, ℕ, false, List, [], ◌∷◌, map, Some, None, Ok, Err, vec_items, vec_len, refl, ap, ◌∙◌, ap₂, arith}
 use Rattle.windows.specs.Meanings.{Meaning}
 use Rattle.windows.specs.Windows.{span}
 use Rattle.law.specs.declared.calls.Answer.{Answer}
@@ -8,10 +8,9 @@ use Rattle.law.specs.declared.calls.Refusal.{Refusal}
 use Rattle.law.specs.declared.calls.Rule.{Rule}
 use Rattle.law.specs.declared.calls.State.{State}
 use Rattle.law.specs.declared.table.Check.{Check}
-use Rattle.law.specs.Faults.{fault}
 use Rattle.law.specs.Law.{Called}
 use Rattle.law.specs.Sheets.{Model, window}
-use Rattle.law.specs.Steps.{Does, Steps, refused, does}
+use Rattle.law.specs.Steps.{Does, refused, does}
 use Rattle.law.specs.Table.{check, checks, first, is_barren, line_cases, open_cases, pinch_cases, rule_cases, ticket_cases, verdict}
 use Rattle.law.proofs.Law.{call_lawful}
 use Rattle.tables.specs.declared.state.Event.{Event}

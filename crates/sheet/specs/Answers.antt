@@ -1,13 +1,9 @@
 -- What the calls' results are as answers.
 -- Assumes nothing.
-use Rattle.std.specs.Prelude.{◌≡◌, ℕ, true, false, length, Ok, Err, Result}
+use Rattle.std.specs.Prelude.{◌≡◌, ℕ, Ok, Err, Result}
 use Rattle.law.specs.declared.calls.Answer.{Answer}
 use Rattle.law.specs.declared.calls.Refusal.{Refusal}
 use Rattle.law.specs.declared.calls.Rule.{Rule}
-use Rattle.law.specs.Sheets.{Model, window}
-use Rattle.law.specs.Table.{no_line}
-use Rattle.windows.specs.Windows.{span}
-use Rattle.windows.specs.declared.window.Window.{Window}
 use Rattle.runs.specs.declared.settled.Settled.{Settled}
 use Rattle.sheet.specs.declared.ticket.Ticket.{Ticket}
 use Rattle.sheet.specs.declared.ticket.Returned.{Returned}

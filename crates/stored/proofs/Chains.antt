@@ -1,5 +1,5 @@
 -- Why a load ends as it does. Assumes nothing.
-use Rattle.std.proofs.Common.{◌≡◌, ℕ, zero, suc, ◌+◌, ◌-◌, ◌<◌, ◌≤◌, Bool, true, false, cond, eqb, leb, ◌⊎◌, List, [], ◌∷◌, length, Some, None, Ok, Err, Option, Result, sym, refl, ap, ◌∙◌, subst, ap₂, inl, inr, arith}
+use Rattle.std.proofs.Common.{◌≡◌, ℕ, zero, suc, ◌-◌, ◌<◌, ◌≤◌, Bool, true, false, cond, eqb, leb, List, [], ◌∷◌, length, Some, None, Ok, Err, Option, Result, sym, refl, ap, ◌∙◌, subst, inl, inr, arith}
 use Rattle.std.proofs.lemmas.Bool.{eqb-true, eqb-false, leb-true, leb-false}
 use Rattle.windows.specs.Meanings.{Meaning}
 use Rattle.law.specs.declared.calls.Refusal.{Refusal}
@@ -8,7 +8,7 @@ use Rattle.stored.specs.declared.fault.LoadFault.TheVariants.{Length, Head, Chai
 use Rattle.stored.specs.declared.item.Item.{Item}
 use Rattle.stored.specs.Records.{records, record_at, byte, is_head, read}
 use Rattle.stored.specs.Loads.{Progress, bad_length, chain, loads, on, on_read, start, step, walk}
-use Rattle.stored.specs.Chains.{Because, EndsAt, Leads, Story, Takes, Told, Whole, here, on_to}
+use Rattle.stored.specs.Chains.{Because, EndsAt, Leads, Story, Takes, Told, here, on_to}
 use Rattle.stored.proofs.Walks.{walk_done, walk_on, loads_chain}
 use Rattle.stored.proofs.Rounds.{opens}
 

@@ -1,6 +1,6 @@
 -- What a store writes comes back by a load. Assumes nothing.
-use Rattle.std.proofs.Common.{◌≡◌, ℕ, zero, suc, ◌+◌, ◌-◌, ◌*◌, ◌/◌, ◌%◌, ◌<◌, ◌≤◌, Bool, true, false, cond, not, ◌&&◌, ◌||◌, eqb, ltb, leb, ◌⊎◌, List, [], ◌∷◌, ◌++◌, map, length, get_or, take, drop, Some, None, Ok, Err, Option, Result, sym, refl, ap, ◌∙◌, subst, ap₂, inl, inr, arith, lit<}
-use Rattle.std.proofs.lemmas.List.{append-nil, append_assoc, length-append, length-map, take_at, drop_at}
+use Rattle.std.proofs.Common.{◌≡◌, ℕ, zero, suc, ◌+◌, ◌-◌, ◌*◌, ◌/◌, ◌%◌, ◌<◌, ◌≤◌, Bool, true, false, cond, not, ◌&&◌, ◌||◌, eqb, ltb, leb, ◌⊎◌, List, [], ◌∷◌, ◌++◌, map, length, take, drop, Some, None, Ok, Err, Option, Result, sym, refl, ap, ◌∙◌, subst, ap₂, inl, inr, arith, lit<}
+use Rattle.std.proofs.lemmas.List.{append-nil, append_assoc, length-append, take_at, drop_at}
 use Rattle.std.proofs.lemmas.Bool.{eq-eqb, ne_eqb, or_from, and_from, and_left, and_right, not_from_true, cases_eq, cases_lt, cond-true, cond-false, le-leb, lt-leb, le-ltb}
 use Rattle.windows.specs.Meanings.{Meaning}
 use Rattle.windows.specs.Spans.{Span, Every}
@@ -10,15 +10,15 @@ use Rattle.law.specs.declared.calls.Refusal.{Refusal}
 use Rattle.law.specs.declared.calls.Rule.{Rule}
 use Rattle.law.specs.declared.calls.State.{State}
 use Rattle.law.specs.Histories.{History, entry}
-use Rattle.law.specs.Sheets.{Core, Model, named, named_by, between}
-use Rattle.law.specs.Sound.{Fits, IsLine, FitRule, SoundCore, Sound}
-use Rattle.law.specs.Table.{checks, verdict, first, some_of, repeats, no_line, misnames, bad_ends}
+use Rattle.law.specs.Sheets.{Core, Model, named, named_by}
+use Rattle.law.specs.Sound.{Fits, IsLine, FitRule, SoundCore}
+use Rattle.law.specs.Table.{checks, verdict, some_of, repeats, no_line, misnames}
 use Rattle.stored.specs.declared.fault.LoadFault.{LoadFault}
 use Rattle.stored.specs.declared.item.Item.{Item}
-use Rattle.stored.specs.Records.{records, record_at, byte, read, write, head, low, high, number, is_head, ruling, call_of}
-use Rattle.stored.specs.Loads.{Progress, progress, step, judged, on, on_read, walk, found, opened, bad_length, chain, loads, start}
+use Rattle.stored.specs.Records.{records, record_at, byte, read, write, head, low, high, number, is_head, ruling}
+use Rattle.stored.specs.Loads.{Progress, progress, step, judged, on, walk, found, opened, bad_length, chain, start}
 use Rattle.stored.specs.Chains.{Takes}
-use Rattle.stored.specs.Stores.{line_item, items_of, items, next_index, chained, file, size, over, unsettled, ComesBack}
+use Rattle.stored.specs.Stores.{line_item, items, next_index, chained, file, size, over, ComesBack}
 use Rattle.stored.proofs.Walks.{walk_done, walk_on, loads_chain}
 use Rattle.stored.proofs.Writes.{write_length, items_length}
 

@@ -7,17 +7,15 @@ use Rattle.law.specs.declared.calls.Refusal.{Refusal}
 use Rattle.law.specs.declared.calls.Rule.{Rule}
 use Rattle.law.specs.Histories.{History, entry}
 use Rattle.law.specs.Law.{Called}
-use Rattle.law.specs.Sheets.{Model, empty}
-use Rattle.law.specs.Steps.{Does, Steps, refused, does, Reached, set_up}
+use Rattle.law.specs.Sheets.{Model}
+use Rattle.law.specs.Steps.{Does, refused, does, Reached, set_up}
 use Rattle.law.proofs.Law.{lawful}
-use Rattle.law.specs.Table.{verdict}
 use Rattle.law.proofs.Sheets.{all_sound}
 use Rattle.stored.specs.declared.fault.LoadFault.{LoadFault}
-use Rattle.stored.specs.declared.fault.LoadFault.TheVariants.{Length, Head, Chain, Record, Call}
-use Rattle.stored.specs.declared.fault.Placed.{Placed}
+use Rattle.stored.specs.declared.fault.LoadFault.TheVariants.{Length, Head, Chain, Record}
 use Rattle.stored.specs.declared.item.Item.{Item}
 use Rattle.stored.specs.Records.{records, record_at, byte, is_head, read, call_of}
-use Rattle.stored.specs.Loads.{LedTo, Outcome, UnderLaw, Progress, progress, with_item, item_number, judged, step, on, on_read, walk, found, opened, told, placed_at, Filled, bad_length, chain, loads}
+use Rattle.stored.specs.Loads.{LedTo, Outcome, UnderLaw, Progress, progress, with_item, item_number, judged, step, on, on_read, walk, found, opened, Filled, bad_length, chain, loads}
 
 -- The chain ends at index 0.
 pub walk_done : {S : Type 0} (take : S → Item → Result S Refusal) (bytes : List ℕ) (left at : ℕ) (s : S) → at ≡ 0 → walk take bytes left at s ≡ Ok s

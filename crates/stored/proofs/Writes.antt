@@ -1,5 +1,5 @@
 -- How the file comes into the buffer, record by record. Assumes nothing.
-use Rattle.std.proofs.Common.{◌≡◌, ℕ, ◌+◌, ◌-◌, ◌*◌, ◌<◌, ◌≤◌, List, [], ◌∷◌, ◌++◌, map, length, get_or, take, drop, sym, refl, ap, ◌∙◌, subst, ap₂, arith}
+use Rattle.std.proofs.Common.{◌≡◌, ℕ, ◌+◌, ◌-◌, ◌*◌, ◌<◌, ◌≤◌, List, ◌++◌, map, length, get_or, take, drop, sym, refl, ap, ◌∙◌, ap₂, arith}
 use Rattle.std.proofs.lemmas.List.{append-nil, append_assoc, length-append, length-map, length-drop, length-take-le, take_at, drop_at, drop-drop, drop_all, drop_more, take-append-drop, get_or_append_left, get_or-append_right, get_or-map}
 use Rattle.std.proofs.lemmas.Slice.{drop-append-drop}
 use Rattle.windows.specs.Spans.{Span, nowhere}

@@ -4,11 +4,11 @@
 --   walk       the chain followed from an index on, where so many records may still be taken
 --   loads      the whole file: its length, its head, then the walk
 -- m is the meaning of the book, id the sheet's number. Assumes nothing.
-use Rattle.std.specs.Prelude.{◌≡◌, ℕ, zero, suc, ◌+◌, ◌-◌, ◌%◌, Bool, true, cond, not, ◌||◌, List, [], ◌∷◌, ◌++◌, length, Some, None, Ok, Err, Option, Result, ◌==◌, nat_le, nat_lt}
+use Rattle.std.specs.Prelude.{◌≡◌, ℕ, zero, suc, ◌+◌, ◌-◌, ◌%◌, Bool, cond, not, ◌||◌, List, [], ◌∷◌, length, Some, None, Ok, Err, Option, Result, ◌==◌, nat_le, nat_lt}
 use Rattle.windows.specs.Meanings.{Meaning}
 use Rattle.law.specs.declared.calls.Answer.{Answer}
 use Rattle.law.specs.declared.calls.Refusal.{Refusal}
-use Rattle.law.specs.Sheets.{Core, Model, empty}
+use Rattle.law.specs.Sheets.{Model, empty}
 use Rattle.law.specs.Steps.{Reached, lined, ruled, with_core}
 use Rattle.law.specs.Histories.{History, entry}
 use Rattle.law.specs.Law.{Law}

@@ -5,7 +5,6 @@
 --   next     byte 1 of a record: the index of the record that follows in the chain, 0 for none
 -- A number of two bytes has its low byte first. Assumes nothing.
 use Rattle.std.specs.Prelude.{ℕ, ◌+◌, ◌*◌, ◌/◌, ◌%◌, Bool, cond, ◌&&◌, List, [], ◌∷◌, length, take, drop, Some, None, Option, ◌==◌, nat_le, slice_index}
-use Rattle.windows.specs.Spans.{Span}
 use Rattle.law.specs.declared.calls.Call.{Call}
 use Rattle.law.specs.declared.calls.Rule.{Rule}
 use Rattle.stored.specs.declared.item.Item.{Item}

@@ -1,6 +1,6 @@
 -- The memory of a sheet.
 -- Assumes nothing.
-use Rattle.std.specs.Prelude.{◌≡◌, ℕ, vec_len}
+use Rattle.std.specs.Prelude.{◌≡◌, vec_len}
 use Rattle.tables.specs.declared.room.Room.{Room}
 use Rattle.tables.specs.declared.tables.Tables.{Tables}
 

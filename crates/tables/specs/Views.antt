@@ -1,6 +1,6 @@
 -- The sheet of the definitions that the tables hold.
 -- Assumes nothing.
-use Rattle.std.specs.Prelude.{ℕ, List, map, reverse, take, vec_items}
+use Rattle.std.specs.Prelude.{List, map, reverse, take, vec_items}
 use Rattle.windows.specs.Windows.{span}
 use Rattle.runs.specs.Snapshots.{kept}
 use Rattle.law.specs.declared.calls.Rule.{Rule}

@@ -1,7 +1,7 @@
 -- Satisfying choices in smaller and larger windows, and the smallest box.
 -- Assumes nothing.
-use Rattle.std.proofs.Common.{◌≡◌, ℕ, zero, suc, ◌<◌, ◌≤◌, List, [], ◌∷◌, length, get_or, sym, refl, ap, ◌∙◌, subst, arith}
-use Rattle.windows.specs.Spans.{Span, In, Inside, Each, Every, Within, Ordered, nowhere}
+use Rattle.std.proofs.Common.{◌≡◌, ℕ, ◌<◌, List, length, get_or, sym, ◌∙◌, subst, arith}
+use Rattle.windows.specs.Spans.{Span, In, Each, Every, Within, Ordered, nowhere}
 use Rattle.windows.specs.Choices.{Choice, NoChoice, Supported, EndsSupported, Smallest}
 use Rattle.windows.proofs.Spans.{within_from, within_length, within_antisym, each_within, each_at, every_from}
 

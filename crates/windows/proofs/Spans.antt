@@ -1,6 +1,6 @@
 -- Windows inside windows, lists of windows within lists, and what holds of every member of a list.
 -- Assumes nothing.
-use Rattle.std.proofs.Common.{◌≡◌, ℕ, zero, suc, ◌<◌, ◌≤◌, List, [], ◌∷◌, ◌++◌, length, get_or, set, refl, ap, ap₂, suc-le-suc, zero-le, le_refl, arith}
+use Rattle.std.proofs.Common.{◌≡◌, ℕ, zero, suc, ◌<◌, List, [], ◌∷◌, ◌++◌, length, get_or, set, refl, ap, ap₂, suc-le-suc, zero-le, le_refl, arith}
 use Rattle.windows.specs.Spans.{Span, In, Inside, Each, Every, Within, nowhere}
 
 -- A window lies inside itself.

@@ -1,5 +1,5 @@
 -- A mode is told by its number, so the book of this number is the book of every mode that has it.
-use Prim.Native.Nat.{ℕ, ◌≤◌}
+use Prim.Native.Nat.{◌≤◌}
 use native.Mathlib.Omega.{arith}
 use mathlib.Core.Path.{◌≡◌, refl, sym, subst, ◌∙◌}
 use Rattle.half.specs.Roundings.{mode_number}

@@ -1,4 +1,4 @@
-use Rattle.std.proofs.Common.{◌-◌, ◌<◌}
+use Rattle.std.proofs.Common.{◌<◌}
 use Rattle.boxes.proofs.Halving.{Halving}
 use Rattle.boxes.proofs.search.fall.Given as goal
 

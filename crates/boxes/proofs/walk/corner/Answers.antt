@@ -1,4 +1,4 @@
-use Rattle.std.proofs.Common.{◌<◌, ◌≤◌, arith}
+use Rattle.std.proofs.Common.{arith}
 use Rattle.boxes.proofs.Staircase.{rightward, downward}
 use Rattle.boxes.proofs.walk.corner.Goals as goal
 

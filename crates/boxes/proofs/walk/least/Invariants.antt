@@ -1,4 +1,3 @@
-use Rattle.std.proofs.Common.{◌-◌}
 use Rattle.boxes.proofs.Bands.{Falling}
 use Rattle.boxes.proofs.walk.least.Given as goal
 

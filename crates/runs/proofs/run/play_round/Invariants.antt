@@ -1,4 +1,4 @@
-use Rattle.std.proofs.Common.{◌≡◌, ℕ, ◌-◌, ◌<◌, ◌≤◌, true, false, not, map, length}
+use Rattle.std.proofs.Common.{◌≡◌, ◌-◌, ◌<◌, ◌≤◌, true, false, not, map, length}
 use Rattle.windows.specs.Windows.{span}
 use Rattle.runs.specs.Rounds.{meaning}
 use Rattle.runs.specs.Wakes.{Calm, Indexed}

@@ -1,4 +1,4 @@
-use Rattle.std.proofs.Common.{ℕ, ◌-◌, ◌≤◌, false, map}
+use Rattle.std.proofs.Common.{◌-◌, ◌≤◌, false, map}
 use Rattle.windows.specs.Windows.{span}
 use Rattle.law.specs.Runs.{Ending, Run}
 use Rattle.runs.specs.Rounds.{Ready, meaning}

@@ -1,10 +1,9 @@
-use Rattle.std.proofs.Common.{◌≡◌, ℕ, Bool, true, false, ◌⊎◌, List, [], ◌∷◌, map, take, sym, refl, ap, ◌∙◌, subst, arith, rules}
+use Rattle.std.proofs.Common.{◌≡◌, ℕ, ◌⊎◌, [], ◌∷◌, map, take, sym, refl, ap, ◌∙◌, subst, rules}
 use Rattle.windows.specs.Meanings.{Meaning}
 use Rattle.windows.specs.Windows.{span}
 use Rattle.books.specs.Narrowings.{read, spans}
 use Rattle.law.specs.Sheets.{put}
 use Rattle.runs.specs.Rounds.{meaning}
-use Rattle.runs.specs.declared.run.Attempt.{Attempt}
 use Rattle.runs.proofs.Attempts.{not_unfit, none_is, still_is, narrows_is, two_or_three}
 use Rattle.runs.proofs.Wakes.{woken_same}
 use Rattle.runs.proofs.run.try_rule.Goals as goal

@@ -1,9 +1,8 @@
-use Rattle.std.proofs.Common.{◌≡◌, List, map, vec_items, sym, refl, ap, ◌∙◌, subst, subst₂}
+use Rattle.std.proofs.Common.{List, map, vec_items, sym, ap, ◌∙◌, subst, subst₂}
 use Rattle.std.proofs.lemmas.List.{with_items_is}
 use Rattle.windows.specs.Meanings.{Meaning}
 use Rattle.windows.specs.Spans.{Span}
 use Rattle.windows.specs.Windows.{span}
-use Rattle.windows.specs.declared.window.Window.{Window}
 use Rattle.law.specs.declared.calls.Rule.{Rule}
 use Rattle.runs.specs.Rounds.{Ended, Finished, Ready, meaning}
 use Rattle.runs.proofs.Rounds.{finished_unless_barren}

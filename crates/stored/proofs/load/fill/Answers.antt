@@ -1,9 +1,9 @@
-use Rattle.std.proofs.Common.{◌≡◌, ℕ, true, false, List, length, Ok, Err, sym, refl, ap, ◌∙◌, subst, ap₂, rules}
+use Rattle.std.proofs.Common.{◌≡◌, ℕ, true, false, List, length, Err, sym, refl, ◌∙◌, subst, ap₂}
 use Rattle.windows.specs.Meanings.{Meaning}
 use Rattle.runs.specs.Rounds.{meaning}
 use Rattle.tables.specs.Views.{model}
 use Rattle.stored.specs.declared.fault.LoadFault.TheVariants.{Length, Head}
-use Rattle.stored.specs.Loads.{Filled, loads, bad_length}
+use Rattle.stored.specs.Loads.{Filled, bad_length}
 use Rattle.stored.specs.Records.{is_head, record_at}
 use Rattle.stored.proofs.Walks.{filled_fault, loads_length, loads_head, loads_chain}
 use Rattle.stored.proofs.load.fill.Goals as goal

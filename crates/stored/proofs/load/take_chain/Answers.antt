@@ -1,11 +1,11 @@
-use Rattle.std.proofs.Common.{◌≡◌, ℕ, ◌-◌, List, [], ◌∷◌, get_or, Ok, Err, Result, sym, refl, ap, ◌∙◌, subst, ap₂, subst₂, arith, rules}
+use Rattle.std.proofs.Common.{◌≡◌, ℕ, ◌-◌, List, [], ◌∷◌, get_or, Err, Result, sym, refl, ap, ◌∙◌, subst, ap₂, subst₂}
 use Rattle.std.proofs.lemmas.Result.{err_from_is_err_and}
 use Rattle.windows.specs.Meanings.{Meaning}
 use Rattle.law.specs.declared.calls.Answer.{Answer}
 use Rattle.law.specs.declared.calls.Refusal.{Refusal}
 use Rattle.law.specs.Histories.{History, entry}
 use Rattle.law.specs.Law.{Called}
-use Rattle.law.specs.Sheets.{Model, empty}
+use Rattle.law.specs.Sheets.{Model}
 use Rattle.law.specs.Steps.{Reached, set_up}
 use Rattle.runs.specs.Rounds.{meaning}
 use Rattle.tables.specs.Views.{model}
@@ -14,7 +14,7 @@ use Rattle.stored.specs.declared.fault.LoadFault.TheVariants.{Call}
 use Rattle.stored.specs.declared.item.Item.{Item}
 use Rattle.stored.specs.Loads.{Progress, chain, progress, step, walk, on}
 use Rattle.stored.specs.Records.{records, record_at, byte, call_of}
-use Rattle.stored.proofs.Walks.{walk_done, walk_closed, walk_on, some_left, step_taken, step_refused, filled_fault, filled_whole}
+use Rattle.stored.proofs.Walks.{walk_done, walk_closed, walk_on, step_taken, step_refused, filled_fault, filled_whole}
 use Rattle.stored.proofs.load.take_chain.Goals as goal
 
 -- an empty sheet, and the whole walk

@@ -1,11 +1,10 @@
-use Rattle.std.proofs.Common.{◌≡◌, ℕ, ◌-◌, ◌<◌}
+use Rattle.std.proofs.Common.{◌≡◌, ℕ}
 use Rattle.law.specs.Histories.{History}
 use Rattle.law.specs.Steps.{Reached}
 use Rattle.windows.specs.Meanings.{Meaning}
 use Rattle.runs.specs.Rounds.{meaning}
 use Rattle.tables.specs.Views.{model}
 use Rattle.stored.specs.Loads.{chain, progress, step, walk}
-use Rattle.stored.specs.Records.{records}
 use Rattle.stored.proofs.load.take_chain.Given as goal
 
 -- some history led to the sheet as it is, and what is left of the walk from here on is the walk

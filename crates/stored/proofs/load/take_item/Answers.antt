@@ -1,6 +1,3 @@
-use Rattle.std.proofs.Common.{ℕ}
-use Rattle.windows.specs.Meanings.{Meaning}
-use Rattle.runs.specs.Rounds.{meaning}
 use Rattle.stored.proofs.Walks.{called_rule}
 use Rattle.stored.proofs.load.take_item.Goals as goal
 

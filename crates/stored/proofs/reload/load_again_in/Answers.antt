@@ -1,4 +1,4 @@
-use Rattle.std.proofs.Common.{◌≡◌, ℕ, subst, rules}
+use Rattle.std.proofs.Common.{subst, rules}
 use Rattle.runs.specs.Rounds.{meaning}
 use Rattle.tables.specs.Views.{model}
 use Rattle.stored.specs.Loads.{LedTo}

@@ -1,4 +1,4 @@
-use Rattle.std.proofs.Common.{◌≡◌, ℕ, List, ◌++◌, take, ap₂}
+use Rattle.std.proofs.Common.{ℕ, List, ◌++◌, take, ap₂}
 use Rattle.stored.proofs.Writes.{put_mid}
 use Rattle.stored.proofs.store.put_record.Goals as goal
 

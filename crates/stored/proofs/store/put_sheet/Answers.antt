@@ -1,15 +1,13 @@
-use Rattle.std.proofs.Common.{◌≡◌, ℕ, ◌+◌, ◌*◌, ◌<◌, ◌≤◌, List, map, length, take, sym, refl, ap, ◌∙◌, subst, ap₂, arith}
+use Rattle.std.proofs.Common.{◌≡◌, ℕ, List, map, length, take, sym, ap, ◌∙◌, subst, arith}
 use Rattle.std.proofs.lemmas.List.{length-map}
 use Rattle.windows.specs.Meanings.{Meaning}
-use Rattle.windows.specs.Spans.{Span}
 use Rattle.windows.specs.Windows.{span}
-use Rattle.law.specs.declared.calls.Rule.{Rule}
 use Rattle.law.specs.Sheets.{Core}
 use Rattle.law.proofs.Sheets.{all_sound}
 use Rattle.runs.specs.Rounds.{meaning}
 use Rattle.tables.specs.Views.{core, model}
 use Rattle.tables.proofs.Counts.{lines_count, rules_count}
-use Rattle.stored.specs.Stores.{BackUnderAny, ComesBack, items, items_of, file, over, size}
+use Rattle.stored.specs.Stores.{BackUnderAny, ComesBack, items, items_of, file, over}
 use Rattle.stored.proofs.Rounds.{back_from}
 use Rattle.stored.proofs.store.put_sheet.Goals as goal
 

@@ -1,4 +1,4 @@
-use Rattle.std.proofs.Common.{◌≡◌, ◌≤◌, length, take, vec_items, vec_len}
+use Rattle.std.proofs.Common.{◌≡◌, length, take, vec_items}
 use Rattle.runs.proofs.lines.aside.copied.Given as goal
 
 abbrev pub invariant-loop-i : goal.invariant-loop-i

@@ -1,4 +1,4 @@
-use Rattle.std.proofs.Common.{◌≡◌, ◌≤◌, length, take, vec_items, vec_len, vec_capacity}
+use Rattle.std.proofs.Common.{◌≡◌, take, vec_items, vec_len, vec_capacity}
 use Rattle.runs.proofs.lines.aside.refill.Given as goal
 
 abbrev pub invariant-loop-i : goal.invariant-loop-i

@@ -1,4 +1,4 @@
-use Rattle.std.proofs.Common.{ℕ, ◌<◌, ◌≤◌, [], ◌∷◌, length, get_or}
+use Rattle.std.proofs.Common.{ℕ, ◌<◌, [], ◌∷◌, get_or}
 use Rattle.windows.specs.Spans.{Every}
 use Rattle.runs.specs.Wakes.{Listed, no_rule}
 use Rattle.runs.proofs.naming.Naming.of.Given as goal

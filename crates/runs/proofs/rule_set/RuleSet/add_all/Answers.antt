@@ -1,4 +1,4 @@
-use Rattle.std.proofs.Common.{◌≡◌, ℕ, ◌+◌, ◌<◌, ◌≤◌, ◌≢◌, ◌⊎◌, length, get_or, set, sym, refl, ap, ◌∙◌, ap₂, inl, inr, arith, length-set, below_more}
+use Rattle.std.proofs.Common.{ℕ, ◌<◌, ◌≢◌, length, get_or, sym, refl, ap, ◌∙◌, ap₂, inl, inr, arith, length-set, below_more}
 use lib.Bits.{bit_or, or_zero_l}
 use Rattle.std.proofs.lemmas.List.{get_or-set_same, get_or-set_other, get_or_past}
 use Rattle.std.proofs.lemmas.Bool.{cases_lt}

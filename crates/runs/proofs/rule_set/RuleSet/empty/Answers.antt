@@ -1,4 +1,4 @@
-use Rattle.std.proofs.Common.{◌≡◌, ℕ, zero, suc, List, [], ◌∷◌, get_or, refl}
+use Rattle.std.proofs.Common.{◌≡◌, ℕ, zero, suc, [], ◌∷◌, get_or, refl}
 use Rattle.runs.proofs.RuleSets.{empty_within}
 use Rattle.runs.proofs.rule_set.RuleSet.empty.Goals as goal
 

@@ -1,4 +1,4 @@
-use Rattle.std.proofs.Common.{◌≡◌, ℕ, ◌+◌, ◌<◌, ◌≤◌, sym, refl, ap, ◌∙◌, arith, below_more}
+use Rattle.std.proofs.Common.{◌∙◌, arith, below_more}
 use Rattle.runs.proofs.rule_set.RuleSet.first.Goals as goal
 
 -- one rule more

@@ -1,19 +1,14 @@
-use Rattle.std.proofs.Common.{◌≡◌, ℕ, ◌+◌, ◌<◌, ◌≤◌, List, [], ◌∷◌, ◌++◌, map, length, set, vec_items, vec_len, sym, refl, ap, ◌∙◌, subst, ap₂, arith}
+use Rattle.std.proofs.Common.{◌≡◌, ℕ, ◌+◌, ◌<◌, length, sym, refl, ap, ◌∙◌, subst, arith}
 use Rattle.std.proofs.lemmas.Result.{err_from_is_err_and}
 use Rattle.windows.specs.Meanings.{Meaning}
-use Rattle.windows.specs.Spans.{Span}
-use Rattle.windows.specs.Windows.{span}
 use Rattle.law.specs.declared.calls.Answer.{Answer}
 use Rattle.law.specs.declared.calls.Call.{Call}
-use Rattle.law.specs.declared.calls.State.{State}
-use Rattle.law.specs.Sheets.{Core, Model, between, cut, window}
-use Rattle.law.specs.Steps.{does, refused, with_core}
-use Rattle.law.specs.Table.{first, is_barren, line_cases, open_cases, pinch_cases, rule_cases, ticket_cases}
+use Rattle.law.specs.Sheets.{Model}
+use Rattle.law.specs.Steps.{does, refused}
+use Rattle.law.specs.Table.{is_barren}
 use Rattle.law.proofs.Verdicts.{open_taken}
-use Rattle.tables.specs.declared.state.Event.{Event}
-use Rattle.tables.specs.Edits.{lined_as, pinched_as, ruled_as}
 use Rattle.runs.specs.Rounds.{meaning}
-use Rattle.tables.specs.Views.{core, model}
+use Rattle.tables.specs.Views.{model}
 use Rattle.sheet.proofs.Verdicts.{open_barred, open_cleared, held, turned_away, taken}
 use Rattle.tables.proofs.Counts.{tries_count}
 use Rattle.sheet.proofs.Numbers.{opened_depth}

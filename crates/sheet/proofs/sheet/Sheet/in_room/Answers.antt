@@ -1,6 +1,5 @@
-use Rattle.std.proofs.Common.{◌≡◌, [], sym, refl, subst}
+use Rattle.std.proofs.Common.{[], sym, refl, subst}
 use Rattle.windows.specs.Meanings.{Meaning}
-use Rattle.law.specs.Sheets.{Model}
 use Rattle.law.specs.Steps.{Reached, set_up}
 use Rattle.law.proofs.Law.{lawful}
 use Rattle.runs.specs.Rounds.{meaning}

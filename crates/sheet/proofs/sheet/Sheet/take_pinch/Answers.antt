@@ -1,4 +1,4 @@
-use Rattle.std.proofs.Common.{◌≡◌, ℕ, ◌+◌, ◌≤◌, List, [], ◌∷◌, ◌++◌, map, length, set, vec_items, vec_len, sym, refl, ap, ◌∙◌, subst, ap₂, arith}
+use Rattle.std.proofs.Common.{◌≡◌, ℕ, List, map, length, vec_items, vec_len, sym, refl, ap, ◌∙◌, ap₂}
 use Rattle.std.proofs.lemmas.Result.{err_from_is_err_and}
 use Rattle.windows.specs.Meanings.{Meaning}
 use Rattle.windows.specs.Spans.{Span}
@@ -7,16 +7,15 @@ use Rattle.windows.specs.declared.window.Window.{Window}
 use Rattle.law.specs.declared.calls.Answer.{Answer}
 use Rattle.law.specs.declared.calls.Call.{Call}
 use Rattle.law.specs.declared.calls.State.{State}
-use Rattle.law.specs.Sheets.{Core, Model, between, cut, window}
+use Rattle.law.specs.Sheets.{Model, cut, window}
 use Rattle.law.specs.Steps.{does, refused, with_core}
-use Rattle.law.specs.Table.{first, line_cases, open_cases, pinch_cases, rule_cases, ticket_cases}
-use Rattle.law.proofs.Verdicts.{line_taken, pinch_taken}
-use Rattle.tables.specs.declared.state.Event.{Event}
-use Rattle.tables.specs.Edits.{lined_as, pinched_as, ruled_as}
+use Rattle.law.specs.Table.{first, pinch_cases}
+use Rattle.law.proofs.Verdicts.{pinch_taken}
+use Rattle.tables.specs.Edits.{pinched_as}
 use Rattle.runs.specs.Rounds.{meaning}
 use Rattle.tables.specs.Views.{core, model}
 use Rattle.sheet.proofs.Verdicts.{pinch_barred, pinch_cleared, unsettled, turned_away, taken}
-use Rattle.sheet.proofs.Numbers.{spanning_is, cut_is}
+use Rattle.sheet.proofs.Numbers.{cut_is}
 use Rattle.sheet.proofs.sheet.Sheet.take_pinch.Goals as goal
 
 -- the sheet's state turns the call away

@@ -1,22 +1,12 @@
-use Rattle.std.proofs.Common.{◌≡◌, ℕ, ◌+◌, ◌≤◌, List, [], ◌∷◌, ◌++◌, map, length, set, vec_items, vec_len, sym, refl, ap, ◌∙◌, subst, ap₂, arith}
+use Rattle.std.proofs.Common.{◌≡◌, ℕ, sym, refl, arith}
 use Rattle.std.proofs.lemmas.Result.{err_from_is_err_and}
 use Rattle.windows.specs.Meanings.{Meaning}
-use Rattle.windows.specs.Spans.{Span}
-use Rattle.windows.specs.Windows.{span}
-use Rattle.law.specs.declared.calls.Answer.{Answer}
 use Rattle.law.specs.declared.calls.Call.{Call}
-use Rattle.law.specs.declared.calls.State.{State}
-use Rattle.law.specs.Sheets.{Core, Model, between, cut, window}
-use Rattle.law.specs.Steps.{with_core}
-use Rattle.law.specs.Table.{first, line_cases, open_cases, pinch_cases, rule_cases, ticket_cases}
-use Rattle.law.proofs.Verdicts.{line_taken, pinch_taken}
-use Rattle.tables.specs.declared.state.Event.{Event}
-use Rattle.tables.specs.Edits.{lined_as, pinched_as, ruled_as}
 use Rattle.runs.specs.Rounds.{meaning}
-use Rattle.tables.specs.Views.{core, model}
+use Rattle.tables.specs.Views.{model}
 use Rattle.law.specs.Steps.{does}
 use Rattle.law.proofs.Law.{call_lawful}
-use Rattle.sheet.proofs.Verdicts.{settle_barred, settle_cleared, turned_away, taken}
+use Rattle.sheet.proofs.Verdicts.{settle_barred, settle_cleared, turned_away}
 use Rattle.sheet.proofs.sheet.Sheet.take_settle.Goals as goal
 
 -- the sheet's state turns the call away

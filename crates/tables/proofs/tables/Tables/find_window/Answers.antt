@@ -1,9 +1,8 @@
-use Rattle.std.proofs.Common.{◌≡◌, ℕ, Bool, List, map, length, sym, refl, ap, ◌∙◌}
+use Rattle.std.proofs.Common.{ℕ, List, map, sym, refl, ap, ◌∙◌}
 use Rattle.windows.specs.Windows.{span}
 use Rattle.windows.specs.declared.window.Window.{Window}
 use Rattle.law.specs.Sheets.{window}
 use Rattle.law.specs.Table.{no_line}
-use Rattle.tables.specs.Views.{model}
 use Rattle.tables.proofs.Counts.{lines_count}
 use Rattle.tables.proofs.tables.Tables.find_window.Goals as goal
 

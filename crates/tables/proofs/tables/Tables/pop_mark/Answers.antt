@@ -1,5 +1,5 @@
 use Rattle.std.proofs.cmp.Tests.{ltb_from_iff}
-use Rattle.std.proofs.Common.{◌≡◌, ℕ, ltb, vec_items, vec_len, sym, refl, ap, ◌∙◌, subst, arith, rules}
+use Rattle.std.proofs.Common.{ℕ, ltb, vec_items, vec_len, refl, ap, ◌∙◌, arith, rules}
 use Rattle.tables.specs.Views.{found}
 use Rattle.tables.proofs.Marks.{nested_pop, saved_pop}
 use Rattle.tables.proofs.Models.{same_sheet}

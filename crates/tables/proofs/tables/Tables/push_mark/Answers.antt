@@ -1,4 +1,4 @@
-use Rattle.std.proofs.Common.{◌≡◌, ℕ, List, ◌∷◌, map, reverse, vec_items, vec_len, sym, refl, ap, ◌∙◌, subst, arith, rules}
+use Rattle.std.proofs.Common.{ℕ, List, ◌∷◌, map, reverse, vec_items, sym, refl, ap, ◌∙◌, subst, arith, rules}
 use Rattle.law.specs.Sheets.{Core}
 use Rattle.tables.specs.declared.mark.Mark.{Mark}
 use Rattle.tables.specs.Marks.{Nested}

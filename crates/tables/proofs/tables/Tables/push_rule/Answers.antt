@@ -1,4 +1,4 @@
-use Rattle.std.proofs.Common.{◌≡◌, ℕ, List, map, reverse, vec_items, vec_len, sym, refl, ap, ◌∙◌, subst, arith, rules}
+use Rattle.std.proofs.Common.{ℕ, List, map, reverse, vec_items, vec_len, sym, refl, ap, ◌∙◌, subst, arith, rules}
 use Rattle.law.specs.declared.calls.Rule.{Rule}
 use Rattle.tables.specs.Marks.{Nested}
 use Rattle.tables.specs.Views.{found}

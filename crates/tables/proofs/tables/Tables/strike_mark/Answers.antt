@@ -1,8 +1,7 @@
-use Rattle.std.proofs.Common.{◌≡◌, ℕ, ◌≤◌, List, [], ◌∷◌, map, reverse, get_or, take, drop, vec_items, vec_len, sym, refl, ap, ◌∙◌, subst, arith, rules}
+use Rattle.std.proofs.Common.{◌≡◌, ℕ, ◌≤◌, List, ◌∷◌, map, reverse, get_or, drop, vec_items, vec_len, sym, ap, ◌∙◌, subst, arith, rules}
 use Rattle.windows.specs.Windows.{span}
-use Rattle.windows.specs.declared.window.Window.{Window}
 use Rattle.law.specs.declared.calls.Rule.{Rule}
-use Rattle.law.specs.Sheets.{Core, Model}
+use Rattle.law.specs.Sheets.{Core}
 use Rattle.tables.specs.declared.mark.Mark.{Mark}
 use Rattle.tables.specs.Marks.{Nested}
 use Rattle.tables.specs.Views.{core, found}

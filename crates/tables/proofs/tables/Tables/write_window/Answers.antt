@@ -1,4 +1,4 @@
-use Rattle.std.proofs.Common.{◌≡◌, ◌-◌, List, map, set, refl, ap, ◌∙◌}
+use Rattle.std.proofs.Common.{◌-◌, List, map, set, refl, ap, ◌∙◌}
 use Rattle.std.proofs.lemmas.List.{with_items_is}
 use Rattle.windows.specs.declared.window.Window.{Window}
 use Rattle.windows.specs.Windows.{span}

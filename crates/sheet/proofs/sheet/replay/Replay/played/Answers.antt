@@ -1,5 +1,4 @@
-use Rattle.std.proofs.Common.{◌≡◌, ℕ, ◌+◌, List, [], ◌∷◌, ◌++◌, length, get_or, take, vec_items, sym, refl, ap, ◌∙◌, subst, subst₂}
-use mathlib.Core.Path.{subst₃}
+use Rattle.std.proofs.Common.{ℕ, List, [], get_or, take, vec_items, sym, refl, ◌∙◌, subst₂}
 use Rattle.std.proofs.lemmas.List.{take_all, take_more}
 use Rattle.windows.specs.Meanings.{Meaning}
 use Rattle.law.specs.declared.calls.Answer.{Answer}
