@@ -3,7 +3,7 @@
 set -e
 cd "$(dirname "$0")/../.."
 mkdir -p target/staticlib
-(cd crates/half_export && rt lib) > target/bench-half.log 2>&1 || { tail -5 target/bench-half.log; exit 1; }
-cp crates/half_export/out/libhalf_export.a target/staticlib/
+(cd crates/half_export_c && rt lib) > target/bench-half.log 2>&1 || { tail -5 target/bench-half.log; exit 1; }
+cp crates/half_export_c/out/libhalf_export_c.a target/staticlib/libhalf_export.a
 gcc -O2 -mf16c -frounding-math -o target/outside-half bench/half/outside.c target/staticlib/libhalf_export.a
 target/outside-half

@@ -31,7 +31,7 @@ use Rattle.report.specs.Concluding.{Concluded}
 use Rattle.report.specs.Adding.{over}
 use Rattle.report.specs.Report.{after_report, printable, report, report_answer, up_to}
 use Rattle.report.specs.Traces.{Comes, GreatestWithin, NoneWithin, SettlesTo, allowance}
-use Rattle.report.specs.Traces.{Reported, TraceIn, TraceOf, below, by_none, refused as faulted, reported, settles, too_small, traced, written}
+use Rattle.report.specs.Traces.{Reported, TraceIn, TraceOf, Traced, by_none, no_memory, refused as faulted, reported, settles, traced, written}
 
 -- A load leaves its sheet unsettled.
 abbrev Unsettled : Progress → Type 0
@@ -258,13 +258,19 @@ pub reported_more :
 reported_more more x =
     record { outcome = x.outcome; windows = x.windows; comes = more x.outcome x.windows x.comes; bytes = x.bytes; count = x.count; short = x.short }
 
+pub traced_more :
+    {Is Are : Outcome → List Span → Type 0} {old new : List ℕ} {r : ℕ} → ((o : Outcome) (vs : List Span) → Is o vs → Are o vs) → Traced Is old new r → Traced Are old new r
+traced_more more (reported x) = reported (reported_more more x)
+traced_more more (no_memory same answer) = no_memory same answer
+
 -- A trace where no book fits.
 pub none_traced :
     {input old new : List ℕ} {r : ℕ} → 1024 ≤ length old → (byte input 2 ≡ 0 → 2 < byte input 3) → (byte input 2 ≡ 1 → 0 < byte input 3) →
-    Reported (λ o vs. o ≡ Outcome.Refused (cond (bad_length (length input)) 10 11) 0) old new r → TraceIn input old new r
-none_traced room half-none counter-none x = written room (reported_more (λ o vs is. by_none half-none counter-none is) x)
+    Reported (λ o vs. o ≡ Outcome.Refused (cond (bad_length (length input)) 10 11) 0) old new r → TraceOf input old new r
+none_traced room half-none counter-none x = traced room (reported (reported_more (λ o vs is. by_none half-none counter-none is) x))
 
--- A trace in reserved room is a trace.
-pub traced_in : {input old new : List ℕ} {r : ℕ} → TraceIn input old new r → TraceOf input old new r
-traced_in (below small same answer) = too_small small same answer
-traced_in (written room x) = traced room (reported x)
+-- The same in reserved room.
+pub none_written :
+    {input old new : List ℕ} {r : ℕ} → 1024 ≤ length old → (byte input 2 ≡ 0 → 2 < byte input 3) → (byte input 2 ≡ 1 → 0 < byte input 3) →
+    Reported (λ o vs. o ≡ Outcome.Refused (cond (bad_length (length input)) 10 11) 0) old new r → TraceIn input old new r
+none_written room half-none counter-none x = written room (reported_more (λ o vs is. by_none half-none counter-none is) x)

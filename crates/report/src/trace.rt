@@ -5,7 +5,7 @@ ghost use Rattle.law.specs.Law.{Called};
 ghost use Rattle.report.specs.Concluding.{Concludes};
 ghost use Rattle.report.specs.declared.outcome.Outcome.{Outcome as AnyOutcome};
 ghost use Rattle.report.specs.Picks.{Picks};
-ghost use Rattle.report.specs.Traces.{Comes, Reported, TraceIn, TraceOf, allowance};
+ghost use Rattle.report.specs.Traces.{Comes, Reported, TraceIn, TraceOf, Traced, allowance};
 ghost use Rattle.sheet.specs.Answers.{settled};
 ghost use Rattle.runs.specs.Rounds.{meaning};
 ghost use Rattle.tables.specs.Views.{model};
@@ -55,14 +55,25 @@ fn conclude<B: Book>(loaded: &mut Loaded<B>) -> Outcome
     }
 }
 
-/// Loads with this book, settles and writes the report.
-fn trace_by<B: Book + Drop>(room: Room, book: B, input: &[u8], output: &mut [u8]) -> usize
+/// Loads with this book in reserved room, settles and writes the report.
+fn trace_by_in<B: Book + Drop>(room: Room, book: B, input: &[u8], output: &mut [u8]) -> usize
     requires { 1024 ≤ length output.old }
     ensures { Reported (Comes (meaning B.top B.arity B.counts (B.related book)) (loads (meaning B.top B.arity B.counts (B.related book)) 0 B.drive (B.mode book) input.now)) output.old output.new result }
 {
     let mut loaded = load_in(room, 0, book, input);
     let outcome = conclude(&mut loaded);
     write_report(outcome, loaded.sheet.all_windows(), output)
+}
+
+/// Loads with this book, settles and writes the report.
+fn trace_by<B: Book + Copy + Drop>(heap: Global, book: B, input: &[u8], output: &mut [u8]) -> usize
+    requires { 1024 ≤ length output.old }
+    ensures { Traced (Comes (meaning B.top B.arity B.counts (B.related book)) (loads (meaning B.top B.arity B.counts (B.related book)) 0 B.drive (B.mode book) input.now)) output.old output.new result }
+{
+    match Room::reserve(heap) {
+        Err(_) => NO_MEMORY,
+        Ok(room) => trace_by_in(room, book, input, output),
+    }
 }
 
 /// The number of the refusal where no book fits.
@@ -125,8 +136,8 @@ pub fn trace_in(room: Room, input: &[u8], output: &mut [u8]) -> usize
 {
     if output.len() >= 1024 {
         match book_for(byte_at(input, 2), byte_at(input, 3)) {
-            Pick::Half(book) => trace_by(room, book, input, output),
-            Pick::Counter => trace_by(room, CounterBook, input, output),
+            Pick::Half(book) => trace_by_in(room, book, input, output),
+            Pick::Counter => trace_by_in(room, CounterBook, input, output),
             Pick::NoBook => trace_by_none(input, output),
         }
     } else {
@@ -143,8 +154,11 @@ pub fn trace(heap: Global, input: &[u8], output: &mut [u8]) -> usize
     if output.len() < 1024 {
         return 0;
     }
-    match Room::reserve(heap) {
-        Err(_) => NO_MEMORY,
-        Ok(room) => trace_in(room, input, output),
+    let drive = byte_at(input, 2);
+    let mode = byte_at(input, 3);
+    match book_for(drive, mode) {
+        Pick::Half(book) => trace_by(heap, book, input, output),
+        Pick::Counter => trace_by(heap, CounterBook, input, output),
+        Pick::NoBook => trace_by_none(input, output),
     }
 }

@@ -420,7 +420,7 @@ fn stored_and_loaded_under_another_number(rt: HostRuntime) -> Result<(), Fail> {
     assert_eq!(rt; again.sheet.number(), 8);
     assert_eq!(rt; again.sheet.lines(), 2);
     assert_eq!(rt; again.sheet.rules(), 1);
-    assert!(rt; &out[..32] == bytes.as_slice());
+    assert!(rt; &out[0..32] == bytes.as_slice());
     assert_eq!(rt; out[32], 9);
     Ok(())
 }

@@ -1,4 +1,4 @@
-//! A list of calls played from set_up to the end.
+//! A list of calls played from set-up to the end.
 ghost use Rattle.std.specs.Prelude.{◌≡◌, IfOk};
 ghost use Rattle.law.specs.Law.{Called, Played};
 ghost use Rattle.sheet.specs.Answers.{begun, ended, numbered as numbered-as, settled as settled-as};

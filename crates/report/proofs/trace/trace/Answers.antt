@@ -1,12 +1,23 @@
-use Rattle.std.proofs.Common.{refl, arith}
-use Rattle.report.specs.Traces.{no_memory, traced}
-use Rattle.report.proofs.Traces.{traced_in}
+use Rattle.std.proofs.Common.{arith}
+use Rattle.report.specs.Traces.{by_counter, by_half, traced}
+use Rattle.report.proofs.Traces.{none_traced, traced_more}
 use Rattle.report.proofs.trace.trace.Goals as goal
 
--- memory is wanting
-pub returns-in-Err : goal.returns-in-Err
-returns-in-Err c = traced (omega arith) (no_memory refl refl)
+-- the half book of the mode
+pub returns-in-Half : goal.returns-in-Half
+returns-in-Half c =
+    traced (omega arith)
+    (traced_more (λ o vs is. by_half c.in-Half.book.mode (omega (arith, c.in-Half.ensures)) (omega (arith, c.in-Half.ensures)) is) c.trace_by.ensures)
 
--- it is a trace in the room that was reserved
-pub returns-in-Ok : goal.returns-in-Ok
-returns-in-Ok c = traced_in c.trace_in.ensures
+-- the counter book
+pub returns-in-Counter : goal.returns-in-Counter
+returns-in-Counter c =
+    traced (omega arith)
+    (traced_more (λ o vs is. by_counter (omega (arith, c.in-Counter.ensures)) (omega (arith, c.in-Counter.ensures)) is) c.trace_by-in-Counter.ensures)
+
+-- neither
+pub returns-in-NoBook : goal.returns-in-NoBook
+returns-in-NoBook c =
+    none_traced (omega arith)
+    (λ e. omega (arith, c.in-NoBook.ensures.0 (omega (arith, e)))) (λ e. omega (arith, c.in-NoBook.ensures.1 (omega (arith, e))))
+    c.trace_by_none.ensures
