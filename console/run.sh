@@ -7,8 +7,7 @@ cd "$(dirname "$0")/.." || exit 1
 mkdir -p target/console target/staticlib
 (cd crates/report_c && rt lib) > target/console/build.log 2>&1 || { tail -n 20 target/console/build.log; echo '0 passed, 1 failed'; exit 1; }
 cp crates/report_c/out/libreport_c.a target/staticlib/libreport.a
-(cd crates/cuetrace && rt run < /dev/null) > target/console/cuetrace.log 2>&1
-[ -x crates/cuetrace/out/cuetrace ] || { tail -n 20 target/console/cuetrace.log; echo '0 passed, 1 failed'; exit 1; }
+(cd crates/cuetrace && rt run < /dev/null) > target/console/cuetrace.log 2>&1 || { tail -n 20 target/console/cuetrace.log; echo '0 passed, 1 failed'; exit 1; }
 kit=$(dirname "$(rt doc)")
 for program in console buffers; do
     gcc -std=c11 -O2 -Wall -Wextra -Werror -o "target/console/$program" "console/$program.c" target/staticlib/libreport.a "$kit/c/liblibc_c.a" \
