@@ -1,8 +1,10 @@
 //! The comparison over all pairs.
 ghost use Rattle.std.specs.Prelude.{◌≡◌, ◌≤◌, length};
 
-use crate::judge::{Exact, judged, raise};
+use crate::judge::{InFloats, judged, raise};
+use codes::operation::Operation;
 use half::mode::Mode;
+use half::operation::Rounded;
 
 /// The top half code.
 const TOP: u32 = 31743;
@@ -18,9 +20,9 @@ impl Tally {
     /// Counts one pair by its two answers in each mode.
     fn count(&mut self, ours: [u32; 3], judged: [u32; 3]) {
         self.pairs = self.pairs.saturating_add(1);
-        for mode in 0..3 {
-            if ours[mode] != judged[mode] {
-                self.differences[mode] = self.differences[mode].saturating_add(1);
+        for (count, (our, its)) in self.differences.iter_mut().zip(ours.iter().zip(&judged)) {
+            if our != its {
+                *count = count.saturating_add(1);
             }
         }
     }
@@ -28,28 +30,26 @@ impl Tally {
 
 /// Compares the pairs of a with every code from a on. The answer is the code below the exact result of a and a, where the
 /// next row's walk may begin.
-fn compare_row<E: Exact>(values: &[f64], a: u32, from: usize, tally: &mut Tally) -> usize
+fn compare_row<X: InFloats>(values: &[f64], a: u32, from: usize, tally: &mut Tally) -> usize
     requires { (length values.now ≡ 31745) × ((a ≤ 31743) × (from ≤ 31744)) }
     ensures { result ≤ 31744 }
 {
     let first = values[a as usize];
-    let start = raise(values, from, E::exact(first, first));
+    let start = raise(values, from, X::in_f64(first, first));
     let mut floor = start;
     for b in a..=TOP {
-        let exact = E::exact(first, values[b as usize]);
+        let exact = X::in_f64(first, values[b as usize]);
         floor = raise(values, floor, exact);
-        let ours = [
-            E::rounded(Mode::TowardZero, a, b),
-            E::rounded(Mode::Nearest, a, b),
-            E::rounded(Mode::Up, a, b),
-        ];
+        let ours = [Mode::TowardZero, Mode::Nearest, Mode::Up].map(|mode| Rounded::<X>::new(
+            mode,
+        ).apply(a, b));
         tally.count(ours, judged(values, floor, exact));
     }
     start
 }
 
 /// Compares every unordered pair of half codes.
-pub(crate) fn compare_all<E: Exact>(values: &[f64]) -> Tally
+pub(crate) fn compare_all<X: InFloats>(values: &[f64]) -> Tally
     requires { length values.now ≡ 31745 }
 {
     let mut tally = Tally {
@@ -58,7 +58,7 @@ pub(crate) fn compare_all<E: Exact>(values: &[f64]) -> Tally
     };
     let mut from = 0;
     for a in 0..=TOP {
-        from = compare_row::<E>(values, a, from, &mut tally);
+        from = compare_row::<X>(values, a, from, &mut tally);
     }
     tally
 }

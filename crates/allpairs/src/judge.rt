@@ -1,10 +1,9 @@
 //! The second method: exact results in f64, judged against a table of the values of all codes.
 ghost use Rattle.std.specs.Prelude.{◌≡◌, ◌≤◌, length, IfOk, vec_len};
 
-use codes::operation::Operation;
-use half::mode::Mode;
-use half::product::HalfProduct;
-use half::sum::HalfSum;
+use half::operation::Exact;
+use half::product::Product;
+use half::sum::Sum;
 use std::alloc::{AllocError, Global};
 
 /// The code past the greatest half code.
@@ -31,34 +30,20 @@ pub(crate) fn values_of_codes(heap: Global) -> Result<Vec<f64>, AllocError>
     Ok(values)
 }
 
-/// An operation in two ways: its exact result in f64, and the half code to be judged.
-pub(crate) trait Exact {
-    fn exact(a: f64, b: f64) -> f64;
-
-    fn rounded(mode: Mode, a: u32, b: u32) -> u32;
+/// A half operation by a second method: its exact result in f64.
+pub(crate) trait InFloats: Exact {
+    fn in_f64(a: f64, b: f64) -> f64;
 }
 
-pub(crate) struct Products;
-
-impl Exact for Products {
-    fn exact(a: f64, b: f64) -> f64 {
+impl InFloats for Product {
+    fn in_f64(a: f64, b: f64) -> f64 {
         a * b
     }
-
-    fn rounded(mode: Mode, a: u32, b: u32) -> u32 {
-        HalfProduct { mode }.apply(a, b)
-    }
 }
 
-pub(crate) struct Sums;
-
-impl Exact for Sums {
-    fn exact(a: f64, b: f64) -> f64 {
+impl InFloats for Sum {
+    fn in_f64(a: f64, b: f64) -> f64 {
         a + b
-    }
-
-    fn rounded(mode: Mode, a: u32, b: u32) -> u32 {
-        HalfSum { mode }.apply(a, b)
     }
 }
 
@@ -67,6 +52,7 @@ pub(crate) fn raise(values: &[f64], from: usize, exact: f64) -> usize
     requires { (length values.now ≡ 31745) × (from ≤ 31744) }
     ensures { result ≤ 31744 }
 {
+    // By hand: it stands at the last code that passes, where a chain would begin each walk with a new slice.
     let mut floor = from;
     while floor < OVER && values[floor + 1] <= exact {
         floor += 1;

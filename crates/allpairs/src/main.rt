@@ -7,14 +7,16 @@ mod compare;
 mod judge;
 
 use compare::{Tally, compare_all};
-use judge::{Products, Sums, values_of_codes};
+use half::product::Product;
+use half::sum::Sum;
+use judge::values_of_codes;
 use std::io;
 
 fn main(rt: HostRuntime) -> io::Result<()> {
     let values = values_of_codes(rt.alloc())?;
-    let products = compare_all::<Products>(values.as_slice());
+    let products = compare_all::<Product>(values.as_slice());
     report(&rt, "product", products)?;
-    let sums = compare_all::<Sums>(values.as_slice());
+    let sums = compare_all::<Sum>(values.as_slice());
     report(&rt, "sum", sums)
 }
 

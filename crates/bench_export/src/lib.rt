@@ -7,8 +7,8 @@ mod tell;
 ghost use Rattle.std.specs.Prelude.{◌<◌, ◌≡◌};
 ghost use Rattle.half.specs.Roundings.{mode_number};
 ghost use Rattle.half.specs.declared.mode.Mode.{Mode as AnyMode};
-ghost use Rattle.books.specs.CounterBooks.{CounterMeets, counter_lines};
-ghost use Rattle.books.specs.HalfBooks.{HalfMeets, half_lines};
+ghost use Rattle.books.specs.CounterBooks.{counter_meaning};
+ghost use Rattle.books.specs.HalfBooks.{half_meaning};
 ghost use Rattle.bench_export.specs.Told.{Told};
 
 use books::counter::CounterBook;
@@ -16,7 +16,7 @@ use books::half_book::HalfBook;
 use ends::Ends;
 use tell::narrow_ends;
 
-/// The answer to a mode that there is none of.
+/// The answer to a mode that there is none of: a number, since C takes it as it is.
 const NO_MODE: u32 = 3;
 
 /// Closes three windows, each from the lesser to the greater of its ends, by a rule of this kind in the counter drive, and
@@ -24,7 +24,7 @@ const NO_MODE: u32 = 3;
 /// with the ends as they were.
 #[unsafe(no_mangle)]
 pub extern "C" fn narrow_counter(kind: u32, ends: &mut Ends) -> u32
-    ensures { Told 65535 (counter_lines kind) (CounterMeets kind) ends.old ends.new result }
+    ensures { Told counter_meaning kind ends.old ends.new result }
 {
     narrow_ends(&CounterBook, kind, ends)
 }
@@ -32,7 +32,7 @@ pub extern "C" fn narrow_counter(kind: u32, ends: &mut Ends) -> u32
 /// The same in the half drive, with a mode 0, 1 or 2; 3 for any other mode, with the ends as they were.
 #[unsafe(no_mangle)]
 pub extern "C" fn narrow_half(mode: u8, kind: u32, ends: &mut Ends) -> u32
-    ensures told { (m : AnyMode) → mode_number m ≡ mode → Told 31743 (half_lines kind) (HalfMeets m kind) ends.old ends.new result }
+    ensures told { (m : AnyMode) → mode_number m ≡ mode → Told (half_meaning m) kind ends.old ends.new result }
     ensures none { 2 < mode → (result ≡ 3) × (ends.new ≡ ends.old) }
 {
     match HalfBook::new(mode) {

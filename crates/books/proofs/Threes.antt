@@ -1,7 +1,7 @@
 -- The smallest box of an operation, told of the windows of a three-line rule. Assumes nothing.
 use Rattle.std.proofs.Common.{◌≡◌, ℕ, zero, suc, ◌<◌, List, [], ◌∷◌, get_or, refl, arith}
 use Rattle.boxes.specs.declared.interval.Interval.{Interval}
-use Rattle.boxes.specs.declared.cuboid.Cuboid.{Cuboid}
+use Rattle.boxes.specs.declared.triple.Triple.{Triple}
 use Rattle.boxes.specs.Boxes as boxes
 use Rattle.windows.specs.Spans.{Span, Each, nowhere}
 use Rattle.windows.specs.Choices.{Choice, NoChoice, EndsSupported}
@@ -43,7 +43,7 @@ module _ (f : ℕ → ℕ → ℕ) (a b c : Interval) where
   pub three_none : ((x y z : ℕ) → boxes.Choice f a b c x y z → ⊥) → NoChoice (Made f) three
   three_none none xs h = let k = back xs h in none k.0 k.1 k.2 k.3
 
-  module _ (box : Cuboid) (small : boxes.Smallest f a b c box) where
+  module _ (box : Triple Interval) (small : boxes.Smallest f a b c box) where
     -- The closed windows.
     abbrev closed : List Span
     closed = at box.a ∷ at box.b ∷ at box.c ∷ []

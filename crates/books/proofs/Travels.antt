@@ -1,7 +1,7 @@
 -- The worked cases of the counter drive, over the definitions. Assumes nothing.
 use Rattle.std.proofs.Common.{◌≡◌, ℕ, ◌+◌, ◌*◌, ◌/◌, ◌<◌, ◌≤◌, Bool, true, false, ◌&&◌, T, leb, ◌⊎◌, [], ◌∷◌, sym, refl, ap, ◌∙◌, inl, inr, arith, lit<, lit≤, leb→le, rules}
 use Rattle.boxes.specs.declared.interval.Interval.{Interval}
-use Rattle.boxes.specs.declared.cuboid.Cuboid.{Cuboid}
+use Rattle.boxes.specs.declared.triple.Triple.{Triple}
 use Rattle.boxes.specs.Boxes.{Choice, In, Smallest}
 use Rattle.codes.specs.Counter.{counter_product}
 use Rattle.books.specs.Worked.{CounterProducts, CounterTravels, TravelsShown}
@@ -62,7 +62,7 @@ module _ where
   abbrev c₁ : Interval
   c₁ = from_to 4502 4505 (lit≤ tt) (lit< tt)
 
-  abbrev box₁ : Cuboid
+  abbrev box₁ : Triple Interval
   box₁ = record { a = a₁; b = b₁; c = from_to 4503 4504 (lit≤ tt) (lit< tt) }
 
   -- A product of the windows lies from 4503 to 4504.
@@ -97,7 +97,7 @@ module _ where
   abbrev c₂ : Interval
   c₂ = from_to 5 5 (lit≤ tt) (lit< tt)
 
-  abbrev box₂ : Cuboid
+  abbrev box₂ : Triple Interval
   box₂ = record { a = from_to 4 4 (lit≤ tt) (lit< tt); b = from_to 1250 1499 (lit≤ tt) (lit< tt); c = c₂ }
 
   -- A product of 5 comes from 4 and from 1250 to 1499.

@@ -10,7 +10,8 @@ use Rattle.half.specs.Roundings.{product, sum}
 use Rattle.half.specs.declared.mode.Mode.{Mode}
 use Rattle.books.specs.declared.half_book.BookFault.{BookFault}
 use Rattle.books.specs.declared.half_book.BookFault.TheVariants.{NoMode}
-use Rattle.books.specs.Kinds.{among, lines_of, MeetsOf, two_to_five}
+use Rattle.windows.specs.Meanings.{Meaning}
+use Rattle.books.specs.Kinds.{among, counted, lines_of, MeetsOf, two_to_five}
 
 -- Of a kind that the book has not got, 0.
 abbrev pub half_lines : ℕ → ℕ
@@ -20,6 +21,10 @@ half_lines kind = lines_of (among two_to_five kind)
 -- not after by the order.
 abbrev pub HalfMeets : Mode → ℕ → List ℕ → Type 0
 HalfMeets mode kind = MeetsOf (product half mode) (sum half mode) 31743 (among two_to_five kind)
+
+-- Both together, up to the top code.
+abbrev pub half_meaning : Mode → Meaning
+half_meaning mode = record { top = 31743; arity = half_lines; related = HalfMeets mode; counts = counted two_to_five }
 
 -- The number of the refusal.
 abbrev pub fault_number : BookFault → ℕ

@@ -5,16 +5,21 @@
 --   meets     what the codes of those lines have to be to each other
 -- Product and sum are those of a drive; the later of two codes is the greater one up to the drive's top.
 -- Assumes nothing.
-use Rattle.std.specs.Prelude.{◌≡◌, ℕ, ◌≤◌, Bool, true, false, cond, ◌⊎◌, List, [], ◌∷◌, Some, None, Option, ◌==◌, slice_index_or, refl}
-use Rattle.std.proofs.Common.{inl, inr}
+use Rattle.std.specs.Prelude.{◌≡◌, ℕ, ◌≤◌, Bool, true, false, cond, ◌⊎◌, List, [], ◌∷◌, ◌<◌, ◌↔◌, Some, None, Option, MatchResult, Result, ◌==◌, slice_index_or, refl}
+use Rattle.std.proofs.Common.{inl, inr, rules}
 use Rattle.codes.specs.Operations.{later}
 use Rattle.windows.specs.Meanings.{Counts}
 use Rattle.books.specs.declared.kind.Kind.{Kind}
 use Rattle.books.specs.declared.kind.Kind.TheVariants.{Travel, Sum, Later, NotAfter}
+use Rattle.books.specs.declared.kind.UnknownKind.{UnknownKind}
 
 -- The kind of a number.
 abbrev pub numbered : ℕ → Option Kind
 numbered n = cond (n == 2) (Some Travel) (cond (n == 3) (Some Sum) (cond (n == 4) (Some Later) (cond (n == 5) (Some NotAfter) None)))
+
+-- What a number is read as: the kind that has it, if one has.
+abbrev pub Decodes : ℕ → Result Kind UnknownKind → Type 0
+Decodes n r = MatchResult r (λ kind. numbered n ≡ Some kind) (λ e. (e.0 ≡ n) × (numbered n ≡ None))
 
 -- The kind of a number among those that a book has: `kinds` says by its place whether the number is one of them.
 abbrev pub among : List Bool → ℕ → Option Kind
@@ -73,3 +78,7 @@ Meets product sum top NotAfter = IsNotAfter
 abbrev pub MeetsOf : (ℕ → ℕ → ℕ) → (ℕ → ℕ → ℕ) → ℕ → Option Kind → List ℕ → Type 0
 MeetsOf product sum top None xs = ⊥
 MeetsOf product sum top (Some k) xs = Meets product sum top k xs
+
+-- Of the kinds 2 to 5, those that name lines are those that are there.
+pub known : (kind : ℕ) → (slice_index_or two_to_five kind false ≡ true) ↔ (0 < lines_of (among two_to_five kind))
+known kind = Prim.search rules

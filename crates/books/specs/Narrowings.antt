@@ -6,14 +6,15 @@
 --   seen      an answer by what it shows: unfit, no choice, or the spans of the closed windows
 -- A kind of n lines reads the first n of three windows; a window's lower end is never above its upper one.
 -- Assumes nothing.
-use Rattle.std.specs.Prelude.{◌≡◌, ℕ, ◌<◌, ◌≤◌, List, [], ◌∷◌, take, drop, Some, Option}
+use Rattle.std.specs.Prelude.{◌≡◌, ℕ, ◌<◌, ◌≤◌, List, [], ◌∷◌, take, drop, Some, None, Option, Ok, Err, Result}
 use Rattle.boxes.specs.declared.interval.Interval.{Interval}
 use Rattle.windows.specs.Spans.{Span}
 use Rattle.windows.specs.Choices.{NoChoice, Smallest}
 use Rattle.windows.specs.Windows.{span}
-use Rattle.books.specs.declared.narrowing.Triple.{Triple}
-use Rattle.books.specs.declared.narrowing.Narrowing.{Narrowing}
-use Rattle.books.specs.declared.narrowing.Narrowing.TheVariants.{Unfit, None, Closed}
+use Rattle.windows.specs.Meanings.{Meaning}
+use Rattle.windows.specs.declared.window.Window.{Window}
+use Rattle.boxes.specs.declared.triple.Triple.{Triple}
+use Rattle.books.specs.declared.narrowing.Unfit.{Unfit}
 
 -- The windows of three that a kind of n lines reads, and those that it passes over.
 abbrev pub read : ℕ → List Span → List Span
@@ -22,8 +23,8 @@ read n ws = take n ws
 abbrev pub passed : ℕ → List Span → List Span
 passed n ws = drop n ws
 
--- The three windows of a closed answer.
-abbrev pub spans : Triple → List Span
+-- Three windows by their spans.
+abbrev pub spans : Triple Window → List Span
 spans t = span t.a ∷ span t.b ∷ span t.c ∷ []
 
 -- The span from lo to hi.
@@ -49,16 +50,24 @@ pub record Closes (n : ℕ) (R : List ℕ → Type 0) (ws vs : List Span) : Type
   pub smallest : Smallest R (read n ws) (read n vs)
   pub kept : passed n vs ≡ passed n ws
 
+-- A narrowing answers that it is unfit, or the windows of the smallest box, or that there is no choice.
+abbrev pub Narrowing : Type 0
+Narrowing = Result (Option (Triple Window)) Unfit
+
 -- Unfit for a kind that the book has not got, or an end above top among those read; none exactly where no choice lies in
 -- the windows read; else the smallest box.
 abbrev pub Answered : ℕ → ℕ → (List ℕ → Type 0) → List Span → Narrowing → Type 0
-Answered top n R ws Unfit = Fit top n ws → ⊥
-Answered top n R ws None = Fit top n ws × NoChoice R (read n ws)
-Answered top n R ws (Closed t) = Fit top n ws × Closes n R ws (spans t)
+Answered top n R ws (Err _) = Fit top n ws → ⊥
+Answered top n R ws (Ok None) = Fit top n ws × NoChoice R (read n ws)
+Answered top n R ws (Ok (Some t)) = Fit top n ws × Closes n R ws (spans t)
+
+-- The answer of a book with this meaning to a kind.
+abbrev pub Answers : Meaning → ℕ → List Span → Narrowing → Type 0
+Answers m kind ws r = Answered m.top (m.arity kind) (m.related kind) ws r
 
 -- The same without a test of fitness: nothing exactly where no choice lies in the windows read, else the smallest box.
-abbrev pub Closing : ℕ → (List ℕ → Type 0) → List Span → Option Triple → Type 0
-Closing n R ws Option.None = NoChoice R (read n ws)
+abbrev pub Closing : ℕ → (List ℕ → Type 0) → List Span → Option (Triple Window) → Type 0
+Closing n R ws None = NoChoice R (read n ws)
 Closing n R ws (Some t) = Closes n R ws (spans t)
 
 -- What there is to see of an answer.
@@ -68,10 +77,10 @@ pub data Seen : Type 0 where
   closed : List Span → Seen
 
 abbrev pub seen : Narrowing → Seen
-seen Unfit = unfit
-seen None = no_choice
-seen (Closed t) = closed (spans t)
+seen (Err _) = unfit
+seen (Ok None) = no_choice
+seen (Ok (Some t)) = closed (spans t)
 
--- A kind of n lines with the relation R has one answer to the windows ws.
-abbrev pub OneAnswer : ℕ → ℕ → (List ℕ → Type 0) → Type 0
-OneAnswer top n R = (ws : List Span) (r r' : Narrowing) → Answered top n R ws r → Answered top n R ws r' → seen r ≡ seen r'
+-- A book with this meaning has one answer to a kind and any windows.
+abbrev pub OneAnswer : Meaning → ℕ → Type 0
+OneAnswer m kind = (ws : List Span) (r r' : Narrowing) → Answers m kind ws r → Answers m kind ws r' → seen r ≡ seen r'

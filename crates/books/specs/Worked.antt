@@ -7,9 +7,8 @@ use Rattle.codes.specs.Counter.{counter_product}
 use Rattle.half.specs.Laws.{HalfCases}
 use Rattle.windows.specs.Spans.{Span}
 use Rattle.windows.specs.Choices.{NoChoice}
-use Rattle.books.specs.declared.narrowing.Narrowing.{Narrowing}
 use Rattle.books.specs.CounterBooks.{CounterMeets, counter_lines}
-use Rattle.books.specs.Narrowings.{Answered, Closes, Seen, closed, ends, no_choice, seen}
+use Rattle.books.specs.Narrowings.{Answered, Closes, Narrowing, Seen, closed, ends, no_choice, seen}
 
 -- The product drops its remainder, and is over above the top code.
 pub record CounterProducts : Type 0 where

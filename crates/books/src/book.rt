@@ -1,14 +1,14 @@
 //! The book: the interface between a sheet and the rules of one drive.
-ghost use Rattle.std.specs.Prelude.{◌≡◌, ℕ, ◌<◌, ◌≤◌, ◌⊎◌, List, [], ◌∷◌};
-ghost use Rattle.books.specs.Narrowings.{Answered};
-ghost use Rattle.windows.specs.Meanings.{Counts};
-ghost use Rattle.windows.specs.Windows.{span};
+ghost use Rattle.std.specs.Prelude.{◌≡◌, ℕ, ◌<◌, ◌≤◌, ◌⊎◌, ◌↔◌, Bool, true, false, List, slice_index_or};
+ghost use Rattle.books.specs.Narrowings.{Answers, spans};
+ghost use Rattle.windows.specs.Meanings.{Meaning};
 
 use crate::narrowing::Narrowing;
+use boxes::triple::Triple;
 use windows::window::Window;
 
-/// A set of rule kinds in the arithmetic of one drive. Its meaning is how many lines each kind names, `arity`, and
-/// which codes of them satisfy it, `related`.
+/// A set of rule kinds in the arithmetic of one drive. Its `meaning` is how many lines each kind names and which codes of them
+/// satisfy it, up to its top code.
 pub trait Book {
     /// The top code, at most 65535.
     const TOP: u32;
@@ -17,41 +17,37 @@ pub trait Book {
     /// The kinds that the book has, by their places.
     const KINDS: [bool; 8];
 
-    ghost top: { ℕ };
+    ghost TOP: { ℕ };
 
-    ghost drive: { ℕ };
+    ghost DRIVE: { ℕ };
 
-    ghost arity: { ℕ → ℕ };
+    ghost KINDS: { List Bool };
 
     ghost mode: { Self → ℕ };
 
-    ghost related: { Self → ℕ → List ℕ → Type 0 };
+    ghost meaning: { Self → Meaning };
 
-    /// A kind names 0, 2 or 3 lines.
-    ghost counts: { Counts arity };
-
-    /// The top code.
-    fn top_code() -> u32
-        ensures { result ≡ top };
-
-    /// The drive's number.
-    fn drive_number() -> u8
-        ensures { result ≡ drive };
-
+    // A kind goes by its number, and a book that has not got it says 0: any number may be asked for, and rules count lines so.
     /// How many lines a kind names: 0 where the book has not got it, else 2 or 3.
     fn lines(kind: u32) -> u32
-        ensures { result ≡ arity kind };
+        ensures { (book : Self) → result ≡ (meaning book).arity kind };
 
     /// The mode of the book at hand.
     fn mode_number(&self) -> u8
         ensures { result ≡ mode self.now };
 
     /// Closes three windows by a rule of this kind; a two-line kind passes over the third.
-    fn narrow(&self, kind: u32, a: Window, b: Window, c: Window) -> Narrowing
-        ensures { Answered top (arity kind) (related self.now kind) (span a ∷ span b ∷ span c ∷ []) result };
+    fn narrow(&self, kind: u32, windows: Triple<Window>) -> Narrowing
+        ensures { Answers (meaning self.now) kind (spans windows) result };
 
-    ghost small: { top ≤ 65535 };
+    ghost small: { TOP ≤ 65535 };
+
+    /// The meaning is one of codes up to the top code.
+    ghost top: { (book : Self) → (meaning book).top ≡ TOP };
+
+    /// The kinds that name lines are those that the book has.
+    ghost known: { (book : Self) (kind : ℕ) → (slice_index_or KINDS kind false ≡ true) ↔ (0 < (meaning book).arity kind) };
 
     /// The kinds are out of 2 to 5.
-    ghost within: { (k : ℕ) → (k < 2) ⊎ (5 < k) → arity k ≡ 0 };
+    ghost within: { (book : Self) (kind : ℕ) → (kind < 2) ⊎ (5 < kind) → (meaning book).arity kind ≡ 0 };
 }

@@ -1,20 +1,19 @@
 //! The book of the counter drive.
-ghost use Rattle.std.specs.Prelude.{◌≡◌, [], ◌∷◌};
-ghost use Rattle.books.specs.CounterBooks.{CounterMeets, counter_lines};
-ghost use Rattle.books.specs.Kinds.{among, counted, lines_of, two_to_five};
-ghost use Rattle.books.specs.Narrowings.{Answered};
-ghost use Rattle.windows.specs.Windows.{span};
+ghost use Rattle.books.specs.CounterBooks.{counter_meaning};
+ghost use Rattle.books.specs.Kinds.{known, two_to_five};
 ghost use Rattle.std.proofs.Common.{rules};
+ghost use Rattle.std.specs.Prelude.{refl};
 
 use crate::book::Book;
-use crate::close::narrow_by;
+use crate::close::Drive;
 use crate::kind::{Kind, TWO_TO_FIVE};
 use crate::narrowing::Narrowing;
+use boxes::triple::Triple;
 use codes::counter::{CounterProduct, CounterSum};
 use windows::window::Window;
 
 /// The rules of the counter drive: whole counts, mode 0.
-#[derive(Clone, Copy)]
+#[derive(Clone, Copy, Debug, PartialEq, Eq, Hash)]
 pub struct CounterBook;
 
 impl Book for CounterBook {
@@ -24,29 +23,23 @@ impl Book for CounterBook {
 
     const KINDS: [bool; 8] = TWO_TO_FIVE;
 
-    ghost top = { 65535 };
+    ghost TOP = { 65535 };
 
-    ghost drive = { 1 };
+    ghost DRIVE = { 1 };
 
-    ghost arity = { counter_lines };
-
-    ghost counts = { counted two_to_five };
+    ghost KINDS = { two_to_five };
 
     ghost mode = { λ _. 0 };
 
-    ghost related = { λ _. CounterMeets };
+    ghost meaning = { λ _. counter_meaning };
 
     ghost small = { Prim.search rules };
 
+    ghost top = { λ _. refl };
+
+    ghost known = { λ _. known };
+
     ghost within = { Prim.search rules };
-
-    fn top_code() -> u32 {
-        Self::TOP
-    }
-
-    fn drive_number() -> u8 {
-        Self::DRIVE
-    }
 
     fn lines(kind: u32) -> u32 {
         Kind::lines_among(&Self::KINDS, kind)
@@ -56,26 +49,15 @@ impl Book for CounterBook {
         0
     }
 
-    fn narrow(&self, kind: u32, a: Window, b: Window, c: Window) -> Narrowing {
-        self.closed(kind, a, b, c)
-    }
-}
-
-impl CounterBook {
-    /// What `narrow` answers, told without the interface: travel by the counter product, sum by the counter sum, later by
-    /// the greater code and not after by the order of codes, each up to 65535.
-    pub fn closed(&self, kind: u32, a: Window, b: Window, c: Window) -> Narrowing
-        ensures { Answered 65535 (counter_lines kind) (CounterMeets kind) (span a ∷ span b ∷ span c ∷ []) result }
-    {
-        narrow_by(
-            CounterProduct,
-            CounterSum,
-            CounterBook::TOP,
-            &CounterBook::KINDS,
-            kind,
-            a,
-            b,
-            c,
-        )
+    /// Travel by the counter product, sum by the counter sum, later by the greater code and not after by the order of codes,
+    /// each up to 65535.
+    fn narrow(&self, kind: u32, windows: Triple<Window>) -> Narrowing {
+        let drive = Drive {
+            product: CounterProduct,
+            sum: CounterSum,
+            top: Self::TOP,
+            kinds: Self::KINDS,
+        };
+        drive.narrow(kind, windows)
     }
 }

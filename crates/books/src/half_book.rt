@@ -1,41 +1,49 @@
 //! The book of the half drive.
-ghost use Rattle.std.specs.Prelude.{◌≡◌, ◌<◌, [], ◌∷◌, MatchResult};
+ghost use Rattle.std.specs.Prelude.{◌≡◌, ◌<◌, MatchResult, refl};
 ghost use Rattle.half.specs.Roundings.{mode_number};
-ghost use Rattle.books.specs.HalfBooks.{HalfMeets, half_lines, fault_number};
-ghost use Rattle.books.specs.Kinds.{among, counted, lines_of, two_to_five};
-ghost use Rattle.books.specs.Narrowings.{Answered};
-ghost use Rattle.windows.specs.Windows.{span};
+ghost use Rattle.books.specs.HalfBooks.{fault_number, half_meaning};
+ghost use Rattle.books.specs.Kinds.{known, two_to_five};
+ghost use Rattle.books.specs.declared.half_book.BookFault.TheVariants.{NoMode};
 ghost use Rattle.std.proofs.Common.{rules};
 
 use crate::book::Book;
-use crate::close::narrow_by;
+use crate::close::Drive;
 use crate::kind::{Kind, TWO_TO_FIVE};
 use crate::narrowing::Narrowing;
-use half::mode::Mode;
+use boxes::triple::Triple;
+use half::mode::{Mode, UnknownMode};
 use half::product::HalfProduct;
 use half::sum::HalfSum;
 use windows::window::Window;
 
 /// Why there is no book.
-#[derive(Clone, Copy)]
+#[derive(Clone, Copy, Debug, PartialEq, Eq, Hash)]
 pub enum BookFault {
     /// No mode has the number.
     NoMode,
 }
 
-impl BookFault {
+impl From<UnknownMode> for BookFault {
+    ghost from_gives = { λ _ fault. fault ≡ NoMode };
+
+    fn from(_mode: UnknownMode) -> BookFault {
+        BookFault::NoMode
+    }
+}
+
+impl From<BookFault> for u8 {
+    ghost from_gives = { λ fault number. number ≡ fault_number fault };
+
     /// The refusal's number.
-    pub fn number(self) -> u8
-        ensures { result ≡ fault_number self }
-    {
-        match self {
+    fn from(fault: BookFault) -> u8 {
+        match fault {
             BookFault::NoMode => 11,
         }
     }
 }
 
 /// The rules of the half drive: binary16 codes, rounded in the book's mode.
-#[derive(Clone, Copy)]
+#[derive(Clone, Copy, Debug, PartialEq, Eq, Hash)]
 pub struct HalfBook {
     mode: Mode,
 }
@@ -47,40 +55,42 @@ impl Book for HalfBook {
 
     const KINDS: [bool; 8] = TWO_TO_FIVE;
 
-    ghost top = { 31743 };
+    ghost TOP = { 31743 };
 
-    ghost drive = { 0 };
+    ghost DRIVE = { 0 };
 
-    ghost arity = { half_lines };
+    ghost KINDS = { two_to_five };
 
-    ghost counts = { counted two_to_five };
+    ghost mode = { λ book. mode_number book.mode };
 
-    ghost mode = { λ s. mode_number s.mode };
-
-    ghost related = { λ s. HalfMeets s.mode };
+    ghost meaning = { λ book. half_meaning book.mode };
 
     ghost small = { Prim.search rules };
 
+    ghost top = { λ _. refl };
+
+    ghost known = { λ _. known };
+
     ghost within = { Prim.search rules };
-
-    fn top_code() -> u32 {
-        Self::TOP
-    }
-
-    fn drive_number() -> u8 {
-        Self::DRIVE
-    }
 
     fn lines(kind: u32) -> u32 {
         Kind::lines_among(&Self::KINDS, kind)
     }
 
     fn mode_number(&self) -> u8 {
-        self.mode.number()
+        u8::from(self.mode)
     }
 
-    fn narrow(&self, kind: u32, a: Window, b: Window, c: Window) -> Narrowing {
-        self.closed(kind, a, b, c)
+    /// Travel by the half product and sum by the half sum, both rounded in the book's mode, later by the greater code and not
+    /// after by the order of codes, each up to 31743.
+    fn narrow(&self, kind: u32, windows: Triple<Window>) -> Narrowing {
+        let drive = Drive {
+            product: HalfProduct::new(self.mode),
+            sum: HalfSum::new(self.mode),
+            top: Self::TOP,
+            kinds: Self::KINDS,
+        };
+        drive.narrow(kind, windows)
     }
 }
 
@@ -89,26 +99,8 @@ impl HalfBook {
     pub fn new(mode: u8) -> Result<HalfBook, BookFault>
         ensures { MatchResult result (λ book. mode_number book.mode ≡ mode) (λ fault. (2 < mode) × (fault_number fault ≡ 11)) }
     {
-        match Mode::from_byte(mode) {
-            Some(mode) => Ok(HalfBook { mode }),
-            None => Err(BookFault::NoMode),
-        }
-    }
-
-    /// What `narrow` answers, told without the interface: travel by the half product and sum by the half sum, both rounded
-    /// in the book's mode, later by the greater code and not after by the order of codes, each up to 31743.
-    pub fn closed(&self, kind: u32, a: Window, b: Window, c: Window) -> Narrowing
-        ensures { Answered 31743 (half_lines kind) (HalfMeets self.now.mode kind) (span a ∷ span b ∷ span c ∷ []) result }
-    {
-        narrow_by(
-            HalfProduct { mode: self.mode },
-            HalfSum { mode: self.mode },
-            HalfBook::TOP,
-            &HalfBook::KINDS,
-            kind,
-            a,
-            b,
-            c,
-        )
+        Ok(HalfBook {
+            mode: Mode::try_from(mode)?,
+        })
     }
 }

@@ -2,6 +2,7 @@
 //! half drive.
 #![tactic(auto)]
 
+pub mod any_book;
 pub mod book;
 mod close;
 pub mod counter;

@@ -1,21 +1,11 @@
 //! What a narrowing answers.
+use boxes::triple::Triple;
 use windows::window::Window;
 
-/// Three windows of a rule.
-#[derive(Clone, Copy)]
-pub struct Triple {
-    pub a: Window,
-    pub b: Window,
-    pub c: Window,
-}
+/// The book has not got the kind, or an end that it reads is above its top.
+#[derive(Clone, Copy, Debug, PartialEq, Eq, Hash)]
+pub struct Unfit;
 
-/// The answer of a narrowing.
-#[derive(Clone, Copy)]
-pub enum Narrowing {
-    /// The book has not got the kind, or an end that it reads is above its top.
-    Unfit,
-    /// No satisfying choice lies in the windows.
-    None,
-    /// The smallest box that holds every satisfying choice.
-    Closed(Triple),
-}
+/// The answer of a narrowing: the smallest box that holds every satisfying choice, or `None` where no satisfying choice lies in
+/// the windows.
+pub type Narrowing = Result<Option<Triple<Window>>, Unfit>;

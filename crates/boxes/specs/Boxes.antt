@@ -3,7 +3,7 @@
 -- Assumes nothing.
 use Rattle.std.specs.Prelude.{◌≡◌, ℕ, ◌≤◌, Some, None, Option}
 use Rattle.boxes.specs.declared.interval.Interval.{Interval}
-use Rattle.boxes.specs.declared.cuboid.Cuboid.{Cuboid}
+use Rattle.boxes.specs.declared.triple.Triple.{Triple}
 
 -- The code x lies in the interval w.
 pub record In (w : Interval) (x : ℕ) : Type 0 where
@@ -27,13 +27,13 @@ abbrev pub Third : (ℕ → ℕ → ℕ) → Interval → Interval → Interval 
 Third f a b c z = (x : ℕ) × (y : ℕ) × Choice f a b c x y z
 
 -- The code triple x, y, z lies in the box.
-pub record Lies (box : Cuboid) (x y z : ℕ) : Type 0 where
+pub record Lies (box : Triple Interval) (x y z : ℕ) : Type 0 where
   pub first : In box.a x
   pub second : In box.b y
   pub third : In box.c z
 
 -- The box holds every choice, and each of its six ends belongs to one.
-pub record Smallest (f : ℕ → ℕ → ℕ) (a b c : Interval) (box : Cuboid) : Type 0 where
+pub record Smallest (f : ℕ → ℕ → ℕ) (a b c : Interval) (box : Triple Interval) : Type 0 where
   pub holds : (x y z : ℕ) → Choice f a b c x y z → Lies box x y z
   pub first_lo : First f a b c box.a.lo
   pub first_hi : First f a b c box.a.hi
@@ -43,6 +43,6 @@ pub record Smallest (f : ℕ → ℕ → ℕ) (a b c : Interval) (box : Cuboid) 
   pub third_hi : Third f a b c box.c.hi
 
 -- What is answered: nothing exactly where there is no choice, else the smallest box.
-abbrev pub Closed : (ℕ → ℕ → ℕ) → Interval → Interval → Interval → Option Cuboid → Type 0
+abbrev pub Closed : (ℕ → ℕ → ℕ) → Interval → Interval → Interval → Option (Triple Interval) → Type 0
 Closed f a b c None = (x y z : ℕ) → Choice f a b c x y z → ⊥
 Closed f a b c (Some box) = Smallest f a b c box

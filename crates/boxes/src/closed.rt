@@ -1,23 +1,19 @@
 //! The smallest box: both corners of all choices, then the ends of the third interval.
 ghost use Rattle.boxes.specs.Boxes.{Closed};
 
-use crate::cuboid::Cuboid;
 use crate::field::Field;
 use crate::interval::Interval;
+use crate::triple::Triple;
 use crate::walk::{corner, greatest, least};
 use codes::operation::Operation;
 use codes::swapped::Swapped;
 
-/// The smallest box that holds every choice of a code of `a`, a code of `b` and a code of `c` such that the operation
-/// makes the third of the first two; `None` exactly where there is no such choice.
-pub fn smallest_box<O: Operation + Copy>(
-    op: O,
-    a: Interval,
-    b: Interval,
-    c: Interval,
-) -> Option<Cuboid>
-    ensures { Closed (O.code op) a b c result }
+/// The smallest box that holds every choice of a code of each side such that the operation makes the third of the first two;
+/// `None` exactly where there is no such choice.
+pub fn smallest_box<O: Operation + Copy>(op: O, sides: Triple<Interval>) -> Option<Triple<Interval>>
+    ensures { Closed (O.code op) sides.a sides.b sides.c result }
 {
+    let Triple { a, b, c } = sides;
     let end = c.hi + 1;
     let all = Field {
         x0: a.lo,
@@ -45,7 +41,7 @@ pub fn smallest_box<O: Operation + Copy>(
         lo: c.lo,
         end,
     };
-    Some(Cuboid {
+    Some(Triple {
         a: Interval {
             lo: left.x,
             hi: right.y,

@@ -2,7 +2,7 @@
 ghost use Rattle.std.specs.Prelude.{◌<◌, ◌≤◌};
 
 /// First codes from `x0` before `x1`, second codes from `y0` up to `y1`, and the band of results that count, from `lo` before `end`.
-#[derive(Clone, Copy)]
+#[derive(Clone, Copy, Debug, PartialEq, Eq, Hash)]
 pub struct Field {
     pub x0: u32,
     pub x1: u32,
@@ -17,7 +17,7 @@ pub struct Field {
 }
 
 /// A point of a walk, with the operation's result there.
-#[derive(Clone, Copy)]
+#[derive(Clone, Copy, Debug, PartialEq, Eq, Hash)]
 pub struct Point {
     pub x: u32,
     pub y: u32,

@@ -4,7 +4,8 @@ ghost use Rattle.std.specs.Prelude.{◌<◌, ◌≤◌};
 mod calls;
 
 /// The codes from `lo` to `hi`, both counted in; never empty, and below 2,147,483,647, so that a search can double its steps.
-#[derive(Clone, Copy)]
+// Beside `Window`, a type of its own: no window has this bound, and round a window each end would be read through two types.
+#[derive(Clone, Copy, Debug, PartialEq, Eq, Hash)]
 pub struct Interval {
     pub(crate) lo: u32,
     pub(crate) hi: u32,

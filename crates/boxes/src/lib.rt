@@ -6,8 +6,8 @@
 #![tactic(auto)]
 
 pub mod closed;
-pub mod cuboid;
 mod field;
 pub mod interval;
 mod search;
+pub mod triple;
 mod walk;

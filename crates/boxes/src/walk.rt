@@ -34,6 +34,9 @@ pub(crate) fn corner<O: Operation + Copy>(op: O, field: Field) -> Option<Point>
     }
 }
 
+// `below` and `above`, `lowest` and `rightmost`, `least` and `greatest` mirror one another: no type turns the direction of a walk
+// without turning each of its comparisons.
+
 /// The field right of and below `best`, with the results from its lower end up to those below `best`.
 fn below(field: Field, best: Point) -> Field
     requires { Inner field best }

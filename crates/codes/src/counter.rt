@@ -12,8 +12,10 @@ const TOP: u32 = 65535;
 /// The answer "over": one above the top code.
 const OVER: u32 = 65536;
 
+// Product, sum and the later code share the guard of an argument above top, and differ in what they work out, not in a type.
+
 /// The counter product: a × b divided by 1000, the remainder dropped.
-#[derive(Clone, Copy)]
+#[derive(Clone, Copy, Debug, PartialEq, Eq, Hash)]
 pub struct CounterProduct;
 
 impl Operation for CounterProduct {
@@ -42,12 +44,12 @@ impl Operation for CounterProduct {
         if known == 0 || known > TOP || t > OVER {
             return None;
         }
-        Some((t * 1000 + (known - 1)) / known)
+        Some((t * 1000).div_ceil(known))
     }
 }
 
 /// The counter sum: a + b.
-#[derive(Clone, Copy)]
+#[derive(Clone, Copy, Debug, PartialEq, Eq, Hash)]
 pub struct CounterSum;
 
 impl Operation for CounterSum {

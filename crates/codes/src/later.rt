@@ -6,7 +6,7 @@ ghost use Rattle.std.proofs.Common.{rules, arith};
 use crate::operation::Operation;
 
 /// The greater of two codes up to `top`. Above `top` there must be room for "over".
-#[derive(Clone, Copy)]
+#[derive(Clone, Copy, Debug, PartialEq, Eq, Hash)]
 pub struct Later {
     top: u32,
     ghost roomy: { top < 4294967295 },
@@ -17,10 +17,8 @@ impl Later {
     pub fn new(top: u32) -> Later
         ensures { result.top ≡ min top 4294967294 }
     {
-        if top < 4294967295 {
-            Later { top }
-        } else {
-            Later { top: 4294967294 }
+        Later {
+            top: top.min(4294967294),
         }
     }
 }
@@ -40,7 +38,7 @@ impl Operation for Later {
         if a > self.top || b > self.top {
             return self.top + 1;
         }
-        if a > b { a } else { b }
+        a.max(b)
     }
 
     fn hint(&self, known: u32, t: u32) -> Option<u32> {

@@ -6,7 +6,8 @@ use Rattle.std.proofs.lemmas.List.{append-nil}
 use Rattle.std.proofs.lemmas.Bool.{cases_eq, eq-eqb, ne_eqb}
 use Rattle.half.specs.Formats.{half, size}
 use Rattle.commands.specs.Numbers.{spells}
-use Rattle.commands.specs.Values.{ExactDigits, digits_of, last_digit}
+use Rattle.commands.specs.declared.value.End.{End}
+use Rattle.commands.specs.Values.{ExactDigits, ExactEnd, digits_of, last_digit}
 
 -- The size of a code with the exponent 0, and of any other.
 pub size_low : (code : ℕ) → code / 1024 ≡ 0 → code % 1024 ≡ size half code
@@ -109,3 +110,8 @@ exact_digits rest small =
         | inr some ↦ last_needed 24 49 rest small (ends_all rest) some e
       ];
     }
+
+-- So are those of every end.
+pub exact_end : (end : End) → ExactEnd end
+exact_end (End.Count n) = tt
+exact_end (End.Half code) = exact_digits (size half code % 16777216) (omega arith)

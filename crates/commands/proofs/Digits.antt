@@ -1,36 +1,15 @@
--- What a loop over the bytes of a word has seen.
-use Rattle.std.proofs.Common.{◌≡◌, ℕ, ◌+◌, ◌-◌, ◌*◌, ◌<◌, ◌≤◌, Bool, true, false, ◌&&◌, List, [], ◌∷◌, length, get_or, drop, Some, None, sym, ap, ◌∙◌, le_refl, arith, rules}
+-- What a loop over the digits of a word has seen.
+use Rattle.std.proofs.Common.{◌≡◌, ℕ, ◌+◌, ◌-◌, ◌*◌, ◌<◌, ◌≤◌, true, ◌&&◌, List, [], ◌∷◌, length, get_or, drop, Some, None, sym, ◌∙◌, le_refl, arith, rules}
+use Rattle.std.specs.Char.{is_ascii_digit}
 use Rattle.std.proofs.lemmas.List.{at_drop_more, at_drop_all}
-use Rattle.commands.specs.declared.class.Class.{Class}
 use Rattle.std.proofs.lemmas.Bool.{le-leb, lt-leb}
-use Rattle.commands.specs.Numbers.{belongs, every, small, spells}
+use Rattle.commands.specs.Numbers.{is_decimal, small, spells}
 
--- The byte at i, and what follows it, decide about what is left at i.
-pub every_step : (class : Class) (w : List ℕ) (i : ℕ) → i < length w
-    → every class (drop i w) ≡ (belongs class (get_or w i 0) && every class (drop (i + 1) w))
-unfolding every
-every_step class w i h = at_drop_more (every class) w i 0 h
-
--- A byte that is no digit decides it.
-pub every_stops : (class : Class) (w : List ℕ) (i : ℕ) → i < length w → belongs class (get_or w i 0) ≡ false
-    → every class (drop i w) ≡ false
-every_stops class w i h no_digit = every_step class w i h ∙ ap (λ (b : Bool). b && every class (drop (i + 1) w)) no_digit
-
--- A digit leaves it to what follows.
-pub every_goes : (class : Class) (w : List ℕ) (i : ℕ) → i < length w → belongs class (get_or w i 0) ≡ true
-    → every class (drop i w) ≡ every class (drop (i + 1) w)
-every_goes class w i h digit = every_step class w i h ∙ ap (λ (b : Bool). b && every class (drop (i + 1) w)) digit
-
--- Nothing is left.
-pub every_all : (class : Class) (w : List ℕ) (i : ℕ) → length w ≤ i → every class (drop i w) ≡ true
-unfolding every
-every_all class w i h = at_drop_all (every class) w i h
-
--- One more digit.
-pub spells_step : (n : ℕ) (w : List ℕ) (i : ℕ) → i < length w
-    → spells n (drop i w) ≡ spells (n * 10 + (get_or w i 0 - 48)) (drop (i + 1) w)
+-- One more digit: what it and those after it spell stays.
+pub spells_more : (n all : ℕ) (w : List ℕ) (i : ℕ) → i < length w → spells n (drop i w) ≡ all
+    → spells (n * 10 + (get_or w i 0 - 48)) (drop (i + 1) w) ≡ all
 unfolding spells
-spells_step n w i h = at_drop_more (spells n) w i 0 h
+spells_more n all w i h e = sym (at_drop_more (spells n) w i 0 h) ∙ e
 
 -- No more digits.
 pub spells_all : (n : ℕ) (w : List ℕ) (i : ℕ) → length w ≤ i → spells n (drop i w) ≡ n
@@ -38,7 +17,7 @@ unfolding spells
 spells_all n w i h = at_drop_all (spells n) w i h
 
 -- More digits never spell less.
-pub spells_grows : (n : ℕ) (bs : List ℕ) → n ≤ spells n bs
+spells_grows : (n : ℕ) (bs : List ℕ) → n ≤ spells n bs
 unfolding spells
 spells_grows n [] = le_refl n
 spells_grows n (b ∷ bs) = omega (arith, spells_grows (n * 10 + (b - 48)) bs)
@@ -51,11 +30,11 @@ grown {n = n} bs ds h e = omega (arith, spells_grows n bs)
 pub record DigitAt (w : List ℕ) (i : ℕ) : Type 0 where
   pub low : 48 ≤ get_or w i 0
   pub high : get_or w i 0 ≤ 57
-  pub others : every Class.Decimal (drop (i + 1) w) ≡ true
+  pub others : is_decimal (drop (i + 1) w) ≡ true
 
-pub digit_at : (w : List ℕ) (i : ℕ) → i < length w → every Class.Decimal (drop i w) ≡ true → DigitAt w i
+pub digit_at : (w : List ℕ) (i : ℕ) → i < length w → is_decimal (drop i w) ≡ true → DigitAt w i
 digit_at w i h all =
-    let e : (belongs Class.Decimal (get_or w i 0) && every Class.Decimal (drop (i + 1) w)) ≡ true = sym (every_step Class.Decimal w i h) ∙ all in
+    let e : (is_ascii_digit (get_or w i 0) && is_decimal (drop (i + 1) w)) ≡ true = sym (at_drop_more is_decimal w i 0 h) ∙ all in
     record { low = search rules; high = search rules; others = search rules }
 
 -- What is small, and what is not.

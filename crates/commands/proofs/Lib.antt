@@ -1,6 +1,5 @@
-mod Bytes
-mod Chains
 mod Decimals
 mod Digits
+mod Many
 mod Runs
 mod Texts

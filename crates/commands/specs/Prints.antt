@@ -4,6 +4,7 @@
 --   help     a line for each command, then `end`
 -- Assumes nothing.
 use Rattle.std.specs.Prelude.{ℕ, ◌+◌, ◌/◌, ◌%◌, cond, List, [], ◌∷◌, ◌++◌, map, length, vec_items, codes, decimal, nat_lt}
+use Rattle.std.specs.List.{flat_map}
 use Rattle.windows.specs.Spans.{Span}
 use Rattle.windows.specs.Windows.{span}
 use Rattle.commands.specs.declared.print.Answer.{Answer}
@@ -35,9 +36,8 @@ abbrev pub pair_of : ℕ → List ℕ
 pair_of b = glyph (b / 16) ∷ glyph (b % 16) ∷ []
 
 -- Bytes in hexadecimal.
-unfoldable pub hex_text : List ℕ → List ℕ
-hex_text [] = []
-hex_text (b ∷ bs) = pair_of b ++ hex_text bs
+abbrev pub hex_text : List ℕ → List ℕ
+hex_text bytes = flat_map pair_of bytes
 
 -- A stored sheet.
 abbrev pub stored : List ℕ → List ℕ

@@ -1,6 +1,6 @@
 -- The first words of the commands.
 -- Assumes nothing.
-use Rattle.std.specs.Prelude.{ℕ, cond, List, [], ◌∷◌, Some, None, codes, Option}
+use Rattle.std.specs.Prelude.{ℕ, List, [], ◌∷◌, codes, find, Option}
 use Rattle.std.specs.Str.{bytes_eq}
 use Rattle.commands.specs.declared.verb.Verb.{Verb}
 
@@ -29,11 +29,6 @@ all =
     Verb.Sheet ∷ Verb.Use ∷ Verb.Line ∷ Verb.Rule ∷ Verb.Pinch ∷ Verb.Settle ∷ Verb.Open ∷ Verb.Keep ∷ Verb.Strike ∷ Verb.Window
     ∷ Verb.State ∷ Verb.Lines ∷ Verb.Store ∷ Verb.Load ∷ Verb.Value ∷ Verb.Help ∷ []
 
--- The first of these that a word spells.
-unfoldable pub found : List ℕ → List Verb → Option Verb
-found w [] = None
-found w (v ∷ vs) = cond (bytes_eq w (spelled v)) (Some v) (found w vs)
-
--- What the first word of a line is.
+-- What the first word of a line is: the first of them that it spells.
 abbrev pub verb : List ℕ → Option Verb
-verb w = found w all
+verb w = find (λ v. bytes_eq w (spelled v)) all

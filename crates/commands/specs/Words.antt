@@ -3,7 +3,7 @@
 --   piece    what stands between two spaces (byte 32), or before the first, or after the last; it may be empty
 --   word     a piece that is not empty; every byte but a space may stand in one, a tab too
 -- Assumes nothing.
-use Rattle.std.specs.Prelude.{ℕ, suc, Bool, true, false, cond, List, [], ◌∷◌, ◌==◌}
+use Rattle.std.specs.Prelude.{ℕ, cond, List, [], ◌∷◌, ◌==◌}
 
 -- The pieces with one more byte at the start of the first.
 abbrev pub onto : ℕ → List (List ℕ) → List (List ℕ)
@@ -24,14 +24,3 @@ filled ((b ∷ bs) ∷ ps) = (b ∷ bs) ∷ filled ps
 -- The words of a line, in their order.
 abbrev pub words : List ℕ → List (List ℕ)
 words line = filled (pieces line)
-
--- The last of the words, or w where there is none.
-abbrev pub last_or : List ℕ → List (List ℕ) → List ℕ
-last_or w [] = w
-last_or w (v ∷ vs) = last_or v vs
-
--- How many bytes from the start on are spaces (true), or are none (false).
-unfoldable pub run : Bool → List ℕ → ℕ
-run spaces [] = 0
-run true (b ∷ bs) = cond (b == 32) (suc (run true bs)) 0
-run false (b ∷ bs) = cond (b == 32) 0 (suc (run false bs))

@@ -1,7 +1,10 @@
 //! The commands of the desk, as plain data.
 
+use std::error::Error;
+use std::fmt;
+
 /// Which book a sheet is over.
-#[derive(Clone, Copy)]
+#[derive(Clone, Copy, Debug, PartialEq, Eq)]
 pub enum BookName {
     Counter,
     /// The half book of the mode with this number.
@@ -9,7 +12,7 @@ pub enum BookName {
 }
 
 /// A command. Its numbers are handed to the call as they are.
-#[derive(Clone, Copy)]
+#[derive(Clone, Copy, Debug, PartialEq, Eq)]
 pub enum Command {
     Sheet { number: u32, book: BookName },
     Use(u32),
@@ -31,7 +34,7 @@ pub enum Command {
 }
 
 /// Why a line cannot be read.
-#[derive(Clone, Copy)]
+#[derive(Clone, Copy, Debug, PartialEq, Eq)]
 pub enum Unreadable {
     /// The first word names no command.
     NoCommand,
@@ -48,3 +51,24 @@ pub enum Unreadable {
     /// The word is no row of bytes in hexadecimal.
     NoHex,
 }
+
+impl fmt::Display for Unreadable {
+    ghost use Rattle.std.specs.Prelude.{Some};
+    ghost use Rattle.commands.specs.Replies.{reason};
+
+    ghost output = { λ why. Some (reason why) };
+
+    fn fmt<W: fmt::Write>(&self, f: &mut fmt::Formatter<W>) -> fmt::Result {
+        f.write_str(match self {
+            Unreadable::NoCommand => "no such command",
+            Unreadable::Missing => "a word is missing",
+            Unreadable::TooMany => "too many words",
+            Unreadable::NoNumber => "not a number",
+            Unreadable::TooLarge => "the number is too large",
+            Unreadable::NoBook => "no such book",
+            Unreadable::NoHex => "not bytes in hexadecimal",
+        })
+    }
+}
+
+impl Error for Unreadable {}

@@ -2,7 +2,6 @@
 //! knows of a sheet.
 #![tactic(auto)]
 
-mod class;
 pub mod command;
 pub mod hex;
 mod number;

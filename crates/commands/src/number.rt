@@ -1,35 +1,30 @@
 //! Words that are numbers.
 ghost use Rattle.std.specs.Prelude.{◌≡◌, true};
-ghost use Rattle.commands.specs.declared.class.Class.{Class as AnyClass};
-ghost use Rattle.commands.specs.Numbers.{every, number as number_of, small, spells};
+ghost use Rattle.commands.specs.Numbers.{is_decimal, number as number_of, small, spells};
 
-use crate::class::Class;
 use crate::command::Unreadable;
 
 /// What decimal digits spell, where it is no more than the greatest number of 32 bits.
 fn spelled_value(digits: &[u8]) -> Option<u32>
-    requires { every AnyClass.Decimal digits.now ≡ true }
+    requires { is_decimal digits.now ≡ true }
     ensures { result ≡ small (spells 0 digits.now) }
 {
-    let mut value: u64 = 0;
+    let mut value: u32 = 0;
+    // No `try_fold`: its closure would need a contract of its own, and reads no plainer than `?` in a loop.
     for digit in digits {
-        value = value * 10 + (*digit - 48) as u64;
-        if value > 4294967295 {
-            return None;
-        }
+        value = value
+            .checked_mul(10)?
+            .checked_add(u32::from(*digit - b'0'))?;
     }
-    Some(value as u32)
+    Some(value)
 }
 
 /// The number that a word is.
 pub(crate) fn read_number(word: &[u8]) -> Result<u32, Unreadable>
     ensures { result ≡ number_of word.now }
 {
-    if !Class::Decimal.has_all(word) {
+    if !word.iter().all(|byte| byte.is_ascii_digit()) {
         return Err(Unreadable::NoNumber);
     }
-    match spelled_value(word) {
-        Some(value) => Ok(value),
-        None => Err(Unreadable::TooLarge),
-    }
+    spelled_value(word).ok_or(Unreadable::TooLarge)
 }

@@ -2,192 +2,138 @@
 ghost use Rattle.std.specs.Prelude.{◌≡◌, Ok as AnOk, Err as AnErr, MatchResult};
 ghost use Rattle.commands.specs.declared.command.Command.{Command as AnyCommand};
 ghost use Rattle.commands.specs.declared.verb.Verb.{Verb as AnyVerb};
-ghost use Rattle.commands.specs.Meaning.{arguments, by_words, ended, file, four, headed, heading, is_comment, meaning, next_book, one, three, two};
+ghost use Rattle.commands.specs.Meaning.{arguments, by_words, file, four, meaning, next_book, one, three, two};
 ghost use Rattle.commands.specs.Numbers.{is_hex as hex-word};
-ghost use Rattle.commands.specs.Words.{words};
+ghost use Rattle.commands.specs.Words.{words as words_of};
 
-use crate::class::Class;
 use crate::command::{BookName, Command, Unreadable};
 use crate::verb::Verb;
-use crate::words::{end_words, is_word, next_number, next_word};
+use crate::words::Words;
 
-/// The number of a command that takes one.
-fn read_one(rest: &[u8]) -> Result<u32, Unreadable>
-    ensures { result ≡ one (words rest.now) }
+/// The next book.
+fn next_book(words: &mut Words<'_>) -> Result<BookName, Unreadable>
+    ensures { MatchResult result (λ book. next_book words.old ≡ AnOk (book, words.new)) (λ why. next_book words.old ≡ AnErr why) }
 {
-    let (number, rest) = next_number(rest)?;
-    end_words(rest)?;
-    Ok(number)
-}
-
-/// A line's ends.
-fn read_line(rest: &[u8]) -> Result<Command, Unreadable>
-    ensures { result ≡ two AnyCommand.Line (words rest.now) }
-{
-    let (lo, rest) = next_number(rest)?;
-    let (hi, rest) = next_number(rest)?;
-    end_words(rest)?;
-    Ok(Command::Line { lo, hi })
-}
-
-/// A pinch's line and ends.
-fn read_pinch(rest: &[u8]) -> Result<Command, Unreadable>
-    ensures { result ≡ three AnyCommand.Pinch (words rest.now) }
-{
-    let (line, rest) = next_number(rest)?;
-    let (lo, rest) = next_number(rest)?;
-    let (hi, rest) = next_number(rest)?;
-    end_words(rest)?;
-    Ok(Command::Pinch { line, lo, hi })
-}
-
-/// A rule's kind and lines.
-fn read_rule(rest: &[u8]) -> Result<Command, Unreadable>
-    ensures { result ≡ four AnyCommand.Rule (words rest.now) }
-{
-    let (kind, rest) = next_number(rest)?;
-    let (a, rest) = next_number(rest)?;
-    let (b, rest) = next_number(rest)?;
-    let (c, rest) = next_number(rest)?;
-    end_words(rest)?;
-    Ok(Command::Rule { kind, a, b, c })
-}
-
-/// A book, and what follows it.
-fn next_book(line: &[u8]) -> Result<(BookName, &[u8]), Unreadable>
-    ensures { MatchResult result (λ p. next_book (words line.now) ≡ AnOk (p.0, words p.1.now)) (λ why. next_book (words line.now) ≡ AnErr why) }
-{
-    let Some((word, rest)) = next_word(line) else {
-        return Err(Unreadable::Missing);
-    };
-    if is_word(word, b"counter") {
-        return Ok((BookName::Counter, rest));
+    let word = words.next_word()?;
+    if word == b"counter".as_slice() {
+        Ok(BookName::Counter)
+    } else if word == b"half".as_slice() {
+        words.next_number().map(BookName::Half)
+    } else {
+        Err(Unreadable::NoBook)
     }
-    if !is_word(word, b"half") {
-        return Err(Unreadable::NoBook);
-    }
-    match next_number(rest) {
-        Ok((mode, rest)) => Ok((BookName::Half(mode), rest)),
-        Err(why) => Err(why),
-    }
-}
-
-/// The number and the book of a sheet, and what follows them.
-struct Heading<'a> {
-    number: u32,
-    book: BookName,
-    rest: &'a [u8],
-}
-
-/// Reads them.
-fn read_heading(rest: &[u8]) -> Result<Heading<'_>, Unreadable>
-    ensures { MatchResult result (λ h. heading (words rest.now) ≡ AnOk (headed h.number h.book (words h.rest.now))) (λ why. heading (words rest.now) ≡ AnErr why) }
-{
-    let (number, rest) = next_number(rest)?;
-    let (book, rest) = next_book(rest)?;
-    Ok(Heading { number, book, rest })
 }
 
 /// Whether a word is a row of bytes in hexadecimal.
 fn is_hex(word: &[u8]) -> bool
     ensures { result ≡ hex-word word.now }
 {
-    Class::Hexadecimal.has_all(word) & (word.len() % 2 == 0)
+    word.len() % 2 == 0 && word.iter().all(|byte| byte.is_ascii_hexdigit())
 }
 
 /// Sees that one word is left, and that it is bytes in hexadecimal.
-fn end_file(rest: &[u8]) -> Result<(), Unreadable>
-    ensures { result ≡ file (words rest.now) }
+fn end_file(words: &mut Words<'_>) -> Result<(), Unreadable>
+    ensures { result ≡ file words.old }
 {
-    match next_word(rest) {
-        None => Err(Unreadable::Missing),
-        Some((word, rest)) => {
-            if !is_hex(word) {
-                return Err(Unreadable::NoHex);
-            }
-            end_words(rest)
-        }
+    if !is_hex(words.next_word()?) {
+        return Err(Unreadable::NoHex);
     }
+    words.end()
 }
 
 /// A sheet's number and book.
-fn read_sheet(rest: &[u8]) -> Result<Command, Unreadable>
-    ensures { result ≡ arguments AnyVerb.Sheet (words rest.now) }
+fn read_sheet(words: &mut Words<'_>) -> Result<Command, Unreadable>
+    ensures { result ≡ arguments AnyVerb.Sheet words.old }
 {
-    let Heading { number, book, rest } = read_heading(rest)?;
-    end_words(rest)?;
+    let number = words.next_number()?;
+    let book = next_book(words)?;
+    words.end()?;
     Ok(Command::Sheet { number, book })
 }
 
 /// The number, the book and the bytes of a load.
-fn read_load(rest: &[u8]) -> Result<Command, Unreadable>
-    ensures { result ≡ arguments AnyVerb.Load (words rest.now) }
+fn read_load(words: &mut Words<'_>) -> Result<Command, Unreadable>
+    ensures { result ≡ arguments AnyVerb.Load words.old }
 {
-    let Heading { number, book, rest } = read_heading(rest)?;
-    end_file(rest)?;
+    let number = words.next_number()?;
+    let book = next_book(words)?;
+    end_file(words)?;
     Ok(Command::Load { number, book })
 }
 
-/// A command that takes no more words.
-fn read_alone(rest: &[u8], command: Command) -> Result<Command, Unreadable>
-    ensures { result ≡ ended (words rest.now) command }
+/// The number of a command that takes one.
+fn read_one(words: &mut Words<'_>) -> Result<u32, Unreadable>
+    ensures { result ≡ one words.old }
 {
-    end_words(rest)?;
-    Ok(command)
+    let [number] = words.numbers::<1>()?;
+    Ok(number)
+}
+
+/// A line's ends.
+fn read_line(words: &mut Words<'_>) -> Result<Command, Unreadable>
+    ensures { result ≡ two AnyCommand.Line words.old }
+{
+    let [lo, hi] = words.numbers::<2>()?;
+    Ok(Command::Line { lo, hi })
+}
+
+/// A pinch's line and ends.
+fn read_pinch(words: &mut Words<'_>) -> Result<Command, Unreadable>
+    ensures { result ≡ three AnyCommand.Pinch words.old }
+{
+    let [line, lo, hi] = words.numbers::<3>()?;
+    Ok(Command::Pinch { line, lo, hi })
+}
+
+/// A rule's kind and lines.
+fn read_rule(words: &mut Words<'_>) -> Result<Command, Unreadable>
+    ensures { result ≡ four AnyCommand.Rule words.old }
+{
+    let [kind, a, b, c] = words.numbers::<4>()?;
+    Ok(Command::Rule { kind, a, b, c })
 }
 
 /// The command that a verb and the words after it are.
-fn read_arguments(verb: Verb, rest: &[u8]) -> Result<Command, Unreadable>
-    ensures { result ≡ arguments verb (words rest.now) }
+fn read_arguments(verb: Verb, words: &mut Words<'_>) -> Result<Command, Unreadable>
+    ensures { result ≡ arguments verb words.old }
 {
     match verb {
-        Verb::Sheet => read_sheet(rest),
-        Verb::Use => Ok(Command::Use(read_one(rest)?)),
-        Verb::Line => read_line(rest),
-        Verb::Rule => read_rule(rest),
-        Verb::Pinch => read_pinch(rest),
-        Verb::Settle => Ok(Command::Settle(read_one(rest)?)),
-        Verb::Open => read_alone(rest, Command::Open),
-        Verb::Keep => Ok(Command::Keep(read_one(rest)?)),
-        Verb::Strike => Ok(Command::Strike(read_one(rest)?)),
-        Verb::Window => Ok(Command::Window(read_one(rest)?)),
-        Verb::State => read_alone(rest, Command::State),
-        Verb::Lines => read_alone(rest, Command::Lines),
-        Verb::Store => read_alone(rest, Command::Store),
-        Verb::Load => read_load(rest),
-        Verb::Value => Ok(Command::Value(read_one(rest)?)),
-        Verb::Help => read_alone(rest, Command::Help),
+        Verb::Sheet => read_sheet(words),
+        Verb::Use => read_one(words).map(Command::Use),
+        Verb::Line => read_line(words),
+        Verb::Rule => read_rule(words),
+        Verb::Pinch => read_pinch(words),
+        Verb::Settle => read_one(words).map(Command::Settle),
+        Verb::Open => words.end().map(|()| Command::Open),
+        Verb::Keep => read_one(words).map(Command::Keep),
+        Verb::Strike => read_one(words).map(Command::Strike),
+        Verb::Window => read_one(words).map(Command::Window),
+        Verb::State => words.end().map(|()| Command::State),
+        Verb::Lines => words.end().map(|()| Command::Lines),
+        Verb::Store => words.end().map(|()| Command::Store),
+        Verb::Load => read_load(words),
+        Verb::Value => read_one(words).map(Command::Value),
+        Verb::Help => words.end().map(|()| Command::Help),
     }
 }
 
 /// The command of a line's words.
 fn read_words(line: &[u8]) -> Result<Option<Command>, Unreadable>
-    ensures { result ≡ by_words (words line.now) }
+    ensures { result ≡ by_words (words_of line.now) }
 {
-    let Some((word, rest)) = next_word(line) else {
+    let mut words = Words::new(line);
+    let Some(word) = words.next() else {
         return Ok(None);
     };
-    match Verb::from_word(word) {
-        None => Err(Unreadable::NoCommand),
-        Some(verb) => Ok(Some(read_arguments(verb, rest)?)),
-    }
-}
-
-/// Whether a line begins with `#`.
-fn is_comment(line: &[u8]) -> bool
-    ensures { result ≡ is_comment line.now }
-{
-    match line {
-        [first, ..] => *first == 35,
-        [] => false,
-    }
+    let verb = Verb::try_from(word)?;
+    read_arguments(verb, &mut words).map(Some)
 }
 
 /// What a line means: a command, or nothing where it is passed over, or why it cannot be read.
 pub fn read_command(line: &[u8]) -> Result<Option<Command>, Unreadable>
     ensures { result ≡ meaning line.now }
 {
-    if is_comment(line) {
+    if line.starts_with(b"#") {
         return Ok(None);
     }
     read_words(line)

@@ -1,15 +1,12 @@
 //! What the desk answers, as plain data, and as text.
-ghost use Rattle.std.specs.Prelude.{◌≡◌, IfOk, string_bytes};
-ghost use Rattle.commands.specs.Values.{end_text};
-ghost use Rattle.commands.specs.Replies.{reason, shown, told, valued};
 
 use crate::command::Unreadable;
-use crate::value::{End, show_end};
+use crate::value::End;
 use law::calls::State;
-use std::alloc::{AllocError, Global};
+use std::fmt;
 
 /// Why a command has no effect, besides the refusals of the calls.
-#[derive(Clone, Copy)]
+#[derive(Clone, Copy, Debug, PartialEq, Eq)]
 pub enum Fault {
     Unreadable(Unreadable),
     /// There is no sheet of this number.
@@ -24,40 +21,27 @@ pub enum Fault {
     TooManyTickets,
 }
 
-/// Why a line cannot be read, in words.
-fn unreadable_text(why: Unreadable) -> &'static str
-    ensures { result.now ≡ reason why }
-{
-    match why {
-        Unreadable::NoCommand => "no such command",
-        Unreadable::Missing => "a word is missing",
-        Unreadable::TooMany => "too many words",
-        Unreadable::NoNumber => "not a number",
-        Unreadable::TooLarge => "the number is too large",
-        Unreadable::NoBook => "no such book",
-        Unreadable::NoHex => "not bytes in hexadecimal",
-    }
-}
+/// The whole line: `error` and a short reason.
+impl fmt::Display for Fault {
+    ghost use Rattle.std.specs.Prelude.{Some};
+    ghost use Rattle.commands.specs.Replies.{told};
 
-/// A fault as text.
-fn fault_text(heap: Global, fault: Fault) -> Result<String, AllocError>
-    ensures { IfOk result (λ s. string_bytes s ≡ told fault) }
-{
-    match fault {
-        Fault::Unreadable(why) => {
-            let reason = unreadable_text(why);
-            format!(in heap; "error {reason}\n")
+    ghost output = { λ fault. Some (told fault) };
+
+    fn fmt<W: fmt::Write>(&self, f: &mut fmt::Formatter<W>) -> fmt::Result {
+        match self {
+            Fault::Unreadable(why) => writeln!(f, "error {why}"),
+            Fault::NoSheet(number) => writeln!(f, "error no sheet {number}"),
+            Fault::NonePresent => writeln!(f, "error no sheet"),
+            Fault::NoTicket(place) => writeln!(f, "error no ticket {place}"),
+            Fault::TryOpen(number) => writeln!(f, "error open try on sheet {number}"),
+            Fault::TooManyTickets => writeln!(f, "error no more tickets"),
         }
-        Fault::NoSheet(number) => format!(in heap; "error no sheet {number}\n"),
-        Fault::NonePresent => String::from_str(heap, "error no sheet\n"),
-        Fault::NoTicket(place) => format!(in heap; "error no ticket {place}\n"),
-        Fault::TryOpen(number) => format!(in heap; "error open try on sheet {number}\n"),
-        Fault::TooManyTickets => String::from_str(heap, "error no more tickets\n"),
     }
 }
 
 /// A short answer.
-#[derive(Clone, Copy)]
+#[derive(Clone, Copy, Debug, PartialEq, Eq)]
 pub enum Reply {
     Sheet(u32),
     Line(u32),
@@ -71,6 +55,7 @@ pub enum Reply {
     Struck,
     Window { lo: u32, hi: u32 },
     State(State),
+    // The numbers of refusals, and not the refusals: any number is printed, and a narrower type would ask more of callers.
     Refused(u8),
     /// A load was refused, at the record of this index.
     RefusedAt { why: u8, at: u8 },
@@ -78,44 +63,33 @@ pub enum Reply {
     Error(Fault),
 }
 
-/// The line of two values.
-fn value_line(heap: Global, lo: &str, hi: &str) -> Result<String, AllocError>
-    ensures { IfOk result (λ s. string_bytes s ≡ valued lo.now hi.now) }
-{
-    format!(in heap; "value {lo} {hi}\n")
-}
+/// The whole line.
+impl fmt::Display for Reply {
+    ghost use Rattle.std.specs.Prelude.{Some};
+    ghost use Rattle.commands.specs.Replies.{shown};
 
-/// What two ends mean.
-fn value_text(heap: Global, lo: End, hi: End) -> Result<String, AllocError>
-    ensures { IfOk result (λ s. string_bytes s ≡ valued (end_text lo) (end_text hi)) }
-{
-    let low = show_end(heap, lo)?;
-    let high = show_end(heap, hi)?;
-    value_line(heap, low.as_str(), high.as_str())
-}
+    ghost output = { λ reply. Some (shown reply) };
 
-/// A short answer as text: one line.
-pub(crate) fn reply_text(heap: Global, reply: Reply) -> Result<String, AllocError>
-    ensures { IfOk result (λ s. string_bytes s ≡ shown reply) }
-{
-    match reply {
-        Reply::Sheet(number) => format!(in heap; "sheet {number}\n"),
-        Reply::Line(number) => format!(in heap; "line {number}\n"),
-        Reply::Rule(number) => format!(in heap; "rule {number}\n"),
-        Reply::Pinched => String::from_str(heap, "pinched\n"),
-        Reply::Standing(count) => format!(in heap; "standing {count}\n"),
-        Reply::Spent(allowance) => format!(in heap; "spent {allowance}\n"),
-        Reply::Barren(rule) => format!(in heap; "barren {rule}\n"),
-        Reply::Ticket(place) => format!(in heap; "ticket {place}\n"),
-        Reply::Kept => String::from_str(heap, "kept\n"),
-        Reply::Struck => String::from_str(heap, "struck\n"),
-        Reply::Window { lo, hi } => format!(in heap; "window {lo} {hi}\n"),
-        Reply::State(State::Unsettled) => String::from_str(heap, "unsettled\n"),
-        Reply::State(State::Standing) => String::from_str(heap, "standing\n"),
-        Reply::State(State::Barren) => String::from_str(heap, "barren\n"),
-        Reply::Refused(number) => format!(in heap; "refused {number}\n"),
-        Reply::RefusedAt { why, at } => format!(in heap; "refused {why} at {at}\n"),
-        Reply::Value { lo, hi } => value_text(heap, lo, hi),
-        Reply::Error(fault) => fault_text(heap, fault),
+    fn fmt<W: fmt::Write>(&self, f: &mut fmt::Formatter<W>) -> fmt::Result {
+        match self {
+            Reply::Sheet(number) => writeln!(f, "sheet {number}"),
+            Reply::Line(number) => writeln!(f, "line {number}"),
+            Reply::Rule(number) => writeln!(f, "rule {number}"),
+            Reply::Pinched => writeln!(f, "pinched"),
+            Reply::Standing(count) => writeln!(f, "standing {count}"),
+            Reply::Spent(allowance) => writeln!(f, "spent {allowance}"),
+            Reply::Barren(rule) => writeln!(f, "barren {rule}"),
+            Reply::Ticket(place) => writeln!(f, "ticket {place}"),
+            Reply::Kept => writeln!(f, "kept"),
+            Reply::Struck => writeln!(f, "struck"),
+            Reply::Window { lo, hi } => writeln!(f, "window {lo} {hi}"),
+            Reply::State(State::Unsettled) => writeln!(f, "unsettled"),
+            Reply::State(State::Standing) => writeln!(f, "standing"),
+            Reply::State(State::Barren) => writeln!(f, "barren"),
+            Reply::Refused(number) => writeln!(f, "refused {number}"),
+            Reply::RefusedAt { why, at } => writeln!(f, "refused {why} at {at}"),
+            Reply::Value { lo, hi } => writeln!(f, "value {lo} {hi}"),
+            Reply::Error(fault) => write!(f, "{fault}"),
+        }
     }
 }

@@ -1,19 +1,16 @@
 //! What a half code means, as an exact decimal number.
-ghost use Rattle.std.specs.Prelude.{◌≡◌, ◌<◌, ◌≤◌, ◌++◌, IfOk, string_bytes, OnOk};
-ghost use Rattle.half.specs.Formats.{half as binary16, size};
-ghost use Rattle.commands.specs.declared.value.End.{End as AnyEnd};
-ghost use Rattle.commands.specs.Values.{ExactEnd, digits_of, end_text, exact, half_value};
+ghost use Rattle.std.specs.Prelude.{◌≡◌, ◌≤◌, ◌<◌, IfOk, string_bytes};
+ghost use Rattle.commands.specs.Values.{ExactEnd, end_text};
 
+use half::size::size_of;
 use std::alloc::{AllocError, Global};
-
-/// The greatest code of a half value.
-const TOP: u32 = 31743;
+use std::fmt;
 
 /// How many units, of which a half value has a whole number, make one.
 const UNITS: u64 = 16777216;
 
 /// An end of a line's window, as its sheet's book means it.
-#[derive(Clone, Copy)]
+#[derive(Clone, Copy, Debug, PartialEq, Eq)]
 pub enum End {
     /// A count.
     Count(u32),
@@ -21,70 +18,78 @@ pub enum End {
     Half(u32),
 }
 
-/// The size of a half code, in units.
-fn size_of(code: u32) -> u64
-    requires { code ≤ 31743 }
-    ensures { result ≡ size binary16 code }
-{
-    let fraction = u64::from(code % 1024);
-    let exponent = code / 1024;
-    if exponent == 0 {
-        fraction
-    } else {
-        (1024 + fraction) << (exponent - 1)
-    }
-}
+/// A count as it is, a half code as the exact decimal number of its value. A code above the top stands for whatever is
+/// greater, and is written `over`.
+impl fmt::Display for End {
+    ghost use Rattle.std.specs.Prelude.{Some};
+    ghost use Rattle.commands.specs.Values.{end_text};
 
-/// Writes the digits of a rest of so many units.
-fn push_digits(text: &mut String, rest: u64) -> Result<(), AllocError>
-    requires { rest < 16777216 }
-    ensures { OnOk result (string_bytes text.new ≡ string_bytes text.old ++ digits_of 24 rest) }
-{
-    let mut left = rest;
-    for place in 0..24u32 {
-        if left == 0 {
-            break;
+    ghost output = { λ end. Some (end_text end) };
+
+    fn fmt<W: fmt::Write>(&self, f: &mut fmt::Formatter<W>) -> fmt::Result {
+        match *self {
+            End::Count(count) => write!(f, "{count}"),
+            End::Half(code) => match size_of(code) {
+                Some(units) => write!(f, "{}", Size(units)),
+                None => f.write_str("over"),
+            },
         }
-        let tenfold = left * 10;
-        text.push(char::from(48 + (tenfold / UNITS) as u8))?;
-        left = tenfold % UNITS;
     }
-    Ok(())
 }
 
-/// The decimal number of so many units.
-fn exact_text(heap: Global, size: u64) -> Result<String, AllocError>
-    ensures { IfOk result (λ s. string_bytes s ≡ exact size) }
-{
-    let whole = size / UNITS;
-    let rest = size % UNITS;
-    if rest == 0 {
-        return format!(in heap; "{whole}");
+/// So many units, as a decimal number.
+#[derive(Clone, Copy)]
+struct Size(u64);
+
+impl fmt::Display for Size {
+    ghost use Rattle.std.specs.Prelude.{Some};
+    ghost use Rattle.commands.specs.Values.{exact};
+
+    ghost output = { λ size. Some (exact size.0) };
+
+    fn fmt<W: fmt::Write>(&self, f: &mut fmt::Formatter<W>) -> fmt::Result {
+        let whole = self.0 / UNITS;
+        let rest = self.0 % UNITS;
+        if rest == 0 {
+            return write!(f, "{whole}");
+        }
+        let digits = Digits { rest };
+        write!(f, "{whole}.{digits}")
     }
-    let mut text = format!(in heap; "{whole}.")?;
-    push_digits(&mut text, rest)?;
-    Ok(text)
 }
 
-/// A half code as text.
-fn half_text(heap: Global, code: u32) -> Result<String, AllocError>
-    ensures text { IfOk result (λ s. string_bytes s ≡ half_value code) }
-    ensures exact { ExactEnd (AnyEnd.Half code) }
-{
-    if code > TOP {
-        return String::from_str(heap, "over");
-    }
-    exact_text(heap, size_of(code))
+/// The digits after the point of a rest of so many units.
+#[derive(Clone, Copy)]
+struct Digits {
+    rest: u64,
+    ghost less_than_one: { rest < 16777216 },
 }
 
-/// An end as text: a count as it is, a half code as the exact decimal number of its value. A code above the top stands for
-/// whatever is greater, and is written `over`.
+impl fmt::Display for Digits {
+    ghost use Rattle.std.specs.Prelude.{Some};
+    ghost use Rattle.commands.specs.Values.{digits_of};
+
+    ghost output = { λ digits. Some (digits_of 24 digits.rest) };
+
+    fn fmt<W: fmt::Write>(&self, f: &mut fmt::Formatter<W>) -> fmt::Result {
+        let mut left = self.rest;
+        // No more than 24 digits: each takes a factor of two out of what is left.
+        for place in 0..24u32 {
+            if left == 0 {
+                break;
+            }
+            let tenfold = left * 10;
+            write!(f, "{}", tenfold / UNITS)?;
+            left = tenfold % UNITS;
+        }
+        Ok(())
+    }
+}
+
+/// An end as text.
 pub fn show_end(heap: Global, end: End) -> Result<String, AllocError>
     ensures text { IfOk result (λ s. string_bytes s ≡ end_text end) }
     ensures exact { ExactEnd end }
 {
-    match end {
-        End::Count(count) => format!(in heap; "{count}"),
-        End::Half(code) => half_text(heap, code),
-    }
+    end.to_string(heap)
 }

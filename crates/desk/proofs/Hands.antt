@@ -1,10 +1,9 @@
 -- What calls leave of a hand that is in step with its sheet.
-use Rattle.std.proofs.Common.{◌≡◌, ℕ, suc, ◌+◌, ◌<◌, ◌≤◌, Bool, true, false, cond, not, ◌||◌, eqb, ltb, List, [], ◌∷◌, ◌++◌, length, get_or, take, drop, Some, None, Ok, Err, Option, Result, sym, refl, ap, ◌∙◌, inl, inr, arith, drop-cons}
-use mathlib.Core.Bool.{Bool-set}
+use Rattle.std.proofs.Common.{◌≡◌, ℕ, suc, ◌+◌, ◌<◌, ◌≤◌, Bool, true, false, cond, not, ◌||◌, eqb, List, [], ◌∷◌, ◌++◌, length, get_or, take, drop, Some, None, Ok, Err, Option, Result, sym, refl, ap, ◌∙◌, inl, inr, arith, drop-cons}
 use mathlib.Core.Logic.{∥∥₁_elim, ∥∥₁_map}
 use native.Mathlib.Nat.{ℕ_set}
 use Rattle.std.proofs.lemmas.List.{drop_at, get_or_append_left, get_or_push, length-drop, length_push, length-take-le, take-append-drop, take_at}
-use Rattle.std.proofs.lemmas.Bool.{cases_lt, eqb-false, eqb-true, lt-ltb, ltb-true, not-false}
+use Rattle.std.proofs.lemmas.Bool.{cases_lt, eqb-false, eqb-true, not-false, or_parts}
 use Rattle.std.specs.List.{insert, remove}
 use Rattle.windows.specs.Meanings.{Meaning}
 use Rattle.law.specs.declared.calls.Answer.{Answer}
@@ -19,10 +18,13 @@ use Rattle.law.proofs.Sheets.{all_sound}
 use Rattle.law.proofs.Verdicts.{open_taken}
 use Rattle.sheet.specs.declared.ticket.Returned.{Returned}
 use Rattle.sheet.specs.declared.ticket.Ticket.{Ticket}
+use Rattle.sheet.specs.Answers.{pinched}
 use Rattle.sheet.specs.Tickets.{Innermost}
+use Rattle.std.specs.Option.{MatchOption}
+use Rattle.std.specs.Result.{is_err, result_err}
 use Rattle.stored.specs.declared.fault.LoadFault.{LoadFault}
 use Rattle.stored.specs.Loads.{Outcome, Progress}
-use Rattle.desk.specs.declared.folder.Held.{Held}
+use Rattle.desk.specs.declared.held.Held.{Held}
 use Rattle.desk.specs.declared.folder.calls.Plain.{Plain}
 use Rattle.desk.specs.declared.folder.tickets.Ending.{Ending}
 use Rattle.desk.specs.Endings.{call_by, ended}
@@ -60,7 +62,7 @@ pub record Begun (id : ℕ) (s t : Model) (number depth : ℕ) : Type 0 where
   pub few : length s.saved < 8
 
 pub begun : (m : Meaning) (id : ℕ) (s t : Model) (number depth : ℕ) → Steps m id s Call.Open t (Answer.Opened number depth) → Begun id s t number depth
-begun m id s t number depth (refused why v same says) = let z : ◌≡◌ {A = ℕ} 0 1 = cc says in absurd (omega arith)
+begun m id s t number depth (refused why v same says) = cc says
 begun m id s t number depth (does v d) =
     record {
       one_more = ap (λ (x : Model). length x.saved) d.0 ∙ omega arith;
@@ -87,20 +89,10 @@ more_in_step {m} {m'} {id} {id'} {s} {t} {hand} {hand'} {room} {room'} h em ei i
       roomy = g.roomy;
     }))
 
--- There is room for one more.
-pub room_in_step : {m : Meaning} {id : ℕ} {s t : Model} {hand : List Held} {room : ℕ} {number depth : ℕ} (n : ℕ) →
-    n ≡ length hand → InStep m id s hand room → Begun id s t number depth → n < room
-room_in_step {m} {id} {s} {t} {hand} {room} n e i b =
-    ltb-true n room (∥∥₁_elim i (Bool-set (ltb n room) true) (λ (g : Agrees m id s hand room). lt-ltb n room (omega (arith, g.each, g.roomy, b.few))))
-
 -- No case applies where the first that does is none.
 no_case : (b : Bool) (why : Refusal) (o : Option Refusal) → cond b (Some why) o ≡ None → (b ≡ false) × (o ≡ None)
-no_case true why o e = let z : ◌≡◌ {A = ℕ} 0 1 = cc e in absurd (omega arith)
+no_case true why o e = cc e
 no_case false why o e = (refl, e)
-
-no_either : (x y : Bool) → (x || y) ≡ false → (x ≡ false) × (y ≡ false)
-no_either true y e = let z : ◌≡◌ {A = ℕ} 0 1 = cc e in absurd (omega arith)
-no_either false y e = (refl, e)
 
 -- The ticket that was taken.
 pub record Right (id tries number depth : ℕ) : Type 0 where
@@ -110,8 +102,8 @@ pub record Right (id tries number depth : ℕ) : Type 0 where
 
 right : (id tries number depth : ℕ) → wrong_ticket id tries number depth ≡ false → Right id tries number depth
 right id tries number depth e =
-    let a = no_either (not (eqb number id)) (not (eqb depth tries) || eqb depth 0) e in
-    let b = no_either (not (eqb depth tries)) (eqb depth 0) a.1 in
+    let a = or_parts (not (eqb number id)) (not (eqb depth tries) || eqb depth 0) e in
+    let b = or_parts (not (eqb depth tries)) (eqb depth 0) a.1 in
     let z : depth ≡ 0 → ⊥ = eqb-false depth 0 b.1 in
     record {
       own = eqb-true number id (not-false (eqb number id) a.0);
@@ -129,13 +121,13 @@ less s t xs e f some = let n = ap length (f ∙ e) ∙ length-drop 1 s.saved in 
 
 pub over : (m : Meaning) (id : ℕ) (s t : Model) (e : Ending) (number depth : ℕ) (u : Unit {0}) → Steps m id s (call_by e number depth) t (ended e (Ok u)) → Over id s t number depth
 unfolding verdict checks
-over m id s t Ending.Keep number depth u (refused why v same says) = let z : ◌≡◌ {A = ℕ} 0 1 = cc says in absurd (omega arith)
+over m id s t Ending.Keep number depth u (refused why v same says) = cc says
 over m id s t Ending.Keep number depth u (does v d) =
     let open-case = no_case (is_barren s.core.state) Refusal.IsBarren (first (ticket_cases id (length s.saved) number depth)) v in
     let last-case = no_case (wrong_ticket id (length s.saved) number depth) Refusal.WrongTicket None open-case.1 in
     let r = right id (length s.saved) number depth last-case.0 in
     record { ticket = r; one_less = less s t _ refl (ap (λ (x : Model). x.saved) d.0) (omega (arith, r.deepest, r.real)) }
-over m id s t Ending.Strike number depth u (refused why v same says) = let z : ◌≡◌ {A = ℕ} 0 1 = cc says in absurd (omega arith)
+over m id s t Ending.Strike number depth u (refused why v same says) = cc says
 over m id s t Ending.Strike number depth u (does v d) =
     let last-case = no_case (wrong_ticket id (length s.saved) number depth) Refusal.WrongTicket None v in
     let r = right id (length s.saved) number depth last-case.0 in
@@ -144,8 +136,29 @@ over m id s t Ending.Strike number depth u (does v d) =
 -- A refused one leaves the sheet.
 pub stays : (m : Meaning) (id : ℕ) (s t : Model) (e : Ending) (number depth : ℕ) (back : Returned) → Steps m id s (call_by e number depth) t (ended e (Err back)) → t ≡ s
 stays m id s t e number depth back (refused why v same says) = same
-stays m id s t Ending.Keep number depth back (does v d) = let z : ◌≡◌ {A = ℕ} 0 1 = cc d.1 in absurd (omega arith)
-stays m id s t Ending.Strike number depth back (does v d) = let z : ◌≡◌ {A = ℕ} 0 1 = cc d.1 in absurd (omega arith)
+stays m id s t Ending.Keep number depth back (does v d) = cc d.1
+stays m id s t Ending.Strike number depth back (does v d) = cc d.1
+
+-- A ticket of another sheet leaves the sheet.
+pub turned_away :
+    (m : Meaning) (id : ℕ) (s t : Model) (e : Ending) (number depth : ℕ) (r : Result (Unit {0}) Returned) → (number ≡ id → ⊥) →
+    Steps m id s (call_by e number depth) t (ended e r) → t ≡ s
+turned_away m id s t e number depth (Ok u) apart st = absurd (apart (over m id s t e number depth u st).ticket.own)
+turned_away m id s t e number depth (Err back) apart st = stays m id s t e number depth back st
+
+-- And is refused.
+pub other_refused :
+    (m : Meaning) (id : ℕ) (s t : Model) (e : Ending) (number depth : ℕ) (r : Result (Unit {0}) Returned) → (number ≡ id → ⊥) →
+    Steps m id s (call_by e number depth) t (ended e r) → is_err r ≡ true
+other_refused m id s t e number depth (Ok u) apart st = absurd (apart (over m id s t e number depth u st).ticket.own)
+other_refused m id s t e number depth (Err back) apart st = refl
+
+-- What a pinch answers, by its refusal or none.
+pub pinch_said :
+    (r : Result (Unit {0}) Refusal) (o : Option Refusal) (a : Answer) → o ≡ result_err r →
+    MatchOption o (a ≡ Answer.Pinched) (λ why. a ≡ Answer.Refused why) → a ≡ pinched r
+pinch_said (Ok u) o a e h = rw e at h
+pinch_said (Err why) o a e h = rw e at h
 
 -- One ticket less: the last.
 pub less_in_step :

@@ -1,1 +1,3 @@
 mod Hands
+mod Loads
+mod Present

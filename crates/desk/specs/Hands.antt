@@ -9,7 +9,7 @@ use Rattle.law.specs.declared.calls.Call.{Call}
 use Rattle.law.specs.Sheets.{Model}
 use Rattle.law.specs.Sound.{Sound}
 use Rattle.sheet.specs.Answers.{named}
-use Rattle.desk.specs.declared.folder.Held.{Held}
+use Rattle.desk.specs.declared.held.Held.{Held}
 use Rattle.desk.specs.declared.folder.calls.Plain.{Plain}
 
 -- The tickets are of the sheet of this number, and of the depths 1, 2, 3 and so on.

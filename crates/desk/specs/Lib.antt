@@ -1,6 +1,6 @@
 pub mod Hands
 pub mod Endings
-pub mod Books
 pub mod Tended
 pub mod Desks
 pub mod Plays
+pub mod Effects

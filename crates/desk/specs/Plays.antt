@@ -3,7 +3,7 @@
 --   replied   what is said of a call's answer; the answers that no plain call has are given a reply too
 --   heard     a line that cannot be read changes nothing and is answered by its reason, and one that is passed over by nothing
 -- Assumes nothing.
-use Rattle.std.specs.Prelude.{◌≡◌, ℕ, true, false, List, [], ◌∷◌, ◌++◌, length, Some, None, Ok, Err, Option, Result}
+use Rattle.std.specs.Prelude.{◌≡◌, ℕ, true, false, List, [], ◌∷◌, ◌++◌, length, map, vec_items, Some, None, Ok, Err, Option, Result}
 use Rattle.std.specs.declared.alloc.AllocError.{AllocError}
 use Rattle.law.specs.declared.calls.Answer.{Answer}
 use Rattle.law.specs.Law.{Called}
@@ -17,9 +17,14 @@ use Rattle.commands.specs.declared.reply.Fault.{Fault}
 use Rattle.commands.specs.declared.reply.Reply.{Reply}
 use Rattle.desk.specs.declared.desk.Desk.{Desk}
 use Rattle.desk.specs.declared.folder.calls.Plain.{Plain}
+use Rattle.desk.specs.declared.no_effect.NoEffect.{NoEffect}
 use Rattle.desk.specs.declared.tended.Tended.{Tended}
 use Rattle.desk.specs.Hands.{call_of}
-use Rattle.desk.specs.Tended.{hand_of, meaning_of, model_of, number_of}
+use Rattle.desk.specs.Tended.{end_of, hand_of, meaning_of, model_of, number_of}
+use Rattle.stored.specs.declared.fault.StoreFault.{StoreFault}
+use Rattle.stored.specs.Faults.{store_number}
+use Rattle.stored.specs.Stores.{stores}
+use Rattle.windows.specs.Windows.{span}
 
 -- What is said of the number of a new line or rule.
 abbrev pub numbered : Plain → ℕ → Reply
@@ -55,10 +60,28 @@ pub data OnPresent (Done : Tended → Tended → Type 0) (Absent : Type 0) (befo
       → OnPresent Done Absent before after
 
 -- The window of a line is told as it is, or the line is refused by 2.
-abbrev pub WindowTold : Model → ℕ → Reply → Type 0
-WindowTold s k reply =
-    (no_line (length s.core.windows) k ≡ false → reply ≡ Reply.Window (window s.core.windows k).lo (window s.core.windows k).hi)
-    × (no_line (length s.core.windows) k ≡ true → reply ≡ Reply.Refused 2)
+abbrev pub WindowTold : Model → ℕ → Result Reply NoEffect → Type 0
+WindowTold s k r =
+    (no_line (length s.core.windows) k ≡ false → r ≡ Ok (Reply.Window (window s.core.windows k).lo (window s.core.windows k).hi))
+    × (no_line (length s.core.windows) k ≡ true → r ≡ Err (NoEffect.Told (Reply.Refused 2)))
+
+-- What its ends mean is told, or the line is refused by 2.
+abbrev pub ValueTold : Tended → ℕ → Result Reply NoEffect → Type 0
+ValueTold t k r =
+    (no_line (length (model_of t).core.windows) k ≡ false →
+    r ≡ Ok (Reply.Value (end_of t (window (model_of t).core.windows k).lo) (end_of t (window (model_of t).core.windows k).hi)))
+    × (no_line (length (model_of t).core.windows) k ≡ true → r ≡ Err (NoEffect.Told (Reply.Refused 2)))
+
+-- The windows of all lines are told as they are, unless memory ran out.
+abbrev pub LinesTold : Model → Result Printed NoEffect → Type 0
+LinesTold s (Ok (Printed.Lines windows)) = map span (vec_items windows) ≡ s.core.windows
+LinesTold s (Ok _) = ⊥
+LinesTold s (Err (NoEffect.Told reply)) = ⊥
+LinesTold s (Err (NoEffect.Memory e)) = Unit {0}
+
+-- A sheet that cannot be stored in so many bytes is refused by the fault's number.
+abbrev pub StoreTold : Model → ℕ → Result Printed NoEffect → Type 0
+StoreTold s room r = (fault : StoreFault) → stores s room ≡ Err fault → r ≡ Err (NoEffect.Told (Reply.Refused (store_number fault)))
 
 -- What comes of a line by its meaning.
 abbrev pub Heard : Result (Option Command) Unreadable → Desk → Desk → Result (Option Printed) AllocError → Type 0

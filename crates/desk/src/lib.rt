@@ -3,4 +3,6 @@
 
 pub mod desk;
 mod folder;
+mod held;
+mod no_effect;
 mod tended;

@@ -3,17 +3,22 @@
 --   rounds         the relation between an exact result and the code that it is rounded to, as the standard words it
 --   rounded        the code itself, worked out from the greatest code that is not above the exact result
 -- Assumes nothing. A scale of 0 would make no sense: the theorems ask for a scale above 0, which products and sums have.
-use Rattle.std.specs.Prelude.{◌≡◌, ℕ, zero, suc, ◌+◌, ◌-◌, ◌*◌, ◌%◌, ◌<◌, ◌≤◌, Bool, cond, ◌⊎◌, ◌==◌, nat_le, nat_lt}
+use Rattle.std.specs.Prelude.{◌≡◌, ℕ, zero, suc, ◌+◌, ◌-◌, ◌*◌, ◌%◌, ◌<◌, ◌≤◌, Bool, cond, ◌⊎◌, ◌==◌, nat_le, nat_lt, Result, MatchResult}
 use Rattle.codes.specs.Operations.{within}
 use Rattle.half.specs.Formats.{Format, size, Exact, exact_product, exact_sum}
 use Rattle.half.specs.declared.mode.Mode.{Mode}
 use Rattle.half.specs.declared.mode.Mode.TheVariants.{TowardZero, Nearest, Up}
+use Rattle.half.specs.declared.mode.UnknownMode.{UnknownMode}
 
 -- The number of each mode.
 abbrev pub mode_number : Mode → ℕ
 mode_number TowardZero = 0
 mode_number Nearest = 1
 mode_number Up = 2
+
+-- What a number is read as: the mode that has it; no mode has a number above 2.
+abbrev pub Decodes : ℕ → Result Mode UnknownMode → Type 0
+Decodes number r = MatchResult r (λ m. mode_number m ≡ number) (λ e. (e.0 ≡ number) × (2 < number))
 
 -- A code's value in the parts of an exact result.
 abbrev pub value : Format → Exact → ℕ → ℕ

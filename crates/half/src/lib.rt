@@ -4,8 +4,10 @@
 
 pub mod laws;
 pub mod mode;
+pub mod operation;
 mod parts;
 pub mod product;
 mod rounding;
+pub mod size;
 pub mod sum;
-mod unrounded;
+pub mod unrounded;

@@ -19,7 +19,7 @@ fn fraction_of(code: u32) -> u32
 }
 
 /// A half code taken apart: its size is `significand × 2^shift` units.
-#[derive(Clone, Copy)]
+#[derive(Clone, Copy, Debug, PartialEq, Eq, Hash)]
 pub(crate) struct Parts {
     pub(crate) significand: u32,
     pub(crate) shift: u32,

@@ -62,8 +62,7 @@ fn cut(mode: Mode, code: u32) -> u32
 {
     match mode {
         Mode::TowardZero => code.min(TOP),
-        Mode::Nearest => code.min(OVER),
-        Mode::Up => code.min(OVER),
+        Mode::Nearest | Mode::Up => code.min(OVER),
     }
 }
 

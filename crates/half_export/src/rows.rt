@@ -10,6 +10,7 @@ pub(crate) fn fill<O: Operation + Drop>(op: O, a: &[u32], b: &[u32], out: &mut [
     ensures rest { (k : ℕ) → result ≤ k → get_or out.new k 0 ≡ get_or out.old k 0 }
 {
     let count = a.len().min(b.len()).min(out.len());
+    // By index: a proof knows nothing of a slice that was written through a `zip` of its `iter_mut`.
     for i in 0..count {
         out[i] = op.apply(a[i], b[i]);
     }

@@ -3,15 +3,16 @@ ghost use Rattle.std.specs.Prelude.{◌≡◌};
 ghost use Rattle.law.specs.Refusals.{numbered};
 
 /// The state of a sheet.
-#[derive(Clone, Copy, PartialEq, Eq, Debug)]
+#[derive(Clone, Copy, Debug, PartialEq, Eq, Hash)]
 pub enum State {
     Unsettled,
     Standing,
     Barren,
 }
 
+// Its kind is a number: any number may be handed in, and only the book at hand knows which kinds there are.
 /// A rule: its kind, and the numbers of the lines that it names. A kind of two lines has `c` 0.
-#[derive(Clone, Copy, PartialEq, Eq, Debug)]
+#[derive(Clone, Copy, Debug, PartialEq, Eq, Hash)]
 pub struct Rule {
     pub kind: u32,
     pub a: u32,
@@ -20,7 +21,7 @@ pub struct Rule {
 }
 
 /// Why a call is turned away.
-#[derive(Clone, Copy, PartialEq, Eq, Debug)]
+#[derive(Clone, Copy, Debug, PartialEq, Eq, Hash)]
 pub enum Refusal {
     /// The lower end is above the upper, or the upper above the top.
     Ends,
@@ -43,7 +44,7 @@ pub enum Refusal {
 }
 
 /// A call on a sheet. A ticket is handed in as the sheet's number and the try's depth.
-#[derive(Clone, Copy, PartialEq, Eq, Debug)]
+#[derive(Clone, Copy, Debug, PartialEq, Eq, Hash)]
 pub enum Call {
     Line { lo: u32, hi: u32 },
     Rule(Rule),
@@ -55,7 +56,7 @@ pub enum Call {
 }
 
 /// What a sheet answers.
-#[derive(Clone, Copy, PartialEq, Eq, Debug)]
+#[derive(Clone, Copy, Debug, PartialEq, Eq, Hash)]
 pub enum Answer {
     /// The number of the new line or rule.
     Numbered(u32),
@@ -73,12 +74,12 @@ pub enum Answer {
     Refused(Refusal),
 }
 
-impl Refusal {
+impl From<Refusal> for u8 {
+    ghost from_gives = { λ why number. number ≡ numbered why };
+
     /// The refusal's number.
-    pub fn number(self) -> u8
-        ensures { result ≡ numbered self }
-    {
-        match self {
+    fn from(why: Refusal) -> u8 {
+        match why {
             Refusal::Ends => 1,
             Refusal::NoLine => 2,
             Refusal::Twice => 3,

@@ -5,8 +5,9 @@ ghost use Rattle.law.specs.Faults.{fault};
 
 use crate::calls::Refusal;
 
-/// A case of the table: why a call is turned away, and whether the case applies.
-#[derive(Clone, Copy)]
+/// A case of the table: why a call is turned away, and whether the case applies. An `Option` would be no plainer: the table is
+/// data, in which a case has its refusal whether it applies or not.
+#[derive(Clone, Copy, Debug, PartialEq, Eq, Hash)]
 pub struct Check {
     pub why: Refusal,
     pub applies: bool,
@@ -14,13 +15,6 @@ pub struct Check {
 
 /// Turns a call away by the first case that applies.
 pub fn first_fault(checks: &[Check]) -> Result<(), Refusal>
-    ensures { fault result ≡ first checks.now }
-{
-    first_applying(checks)
-}
-
-/// The same, case by case.
-fn first_applying(checks: &[Check]) -> Result<(), Refusal>
     ensures { fault result ≡ first checks.now }
 {
     for check in checks {

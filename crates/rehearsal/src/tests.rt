@@ -16,16 +16,9 @@ fn plays(
     windows: &[(u32, u32)],
 ) -> Result<(), Fail> {
     let replay = Replay::of(rt.alloc(), 7, CounterBook, calls)?;
-    let given = replay.answers();
-    assert!(rt; given.len() == answers.len());
-    for (got, want) in given.iter().zip(answers.iter()) {
-        assert_eq!(rt; *got, *want);
-    }
-    let shown = replay.sheet().all_windows();
-    assert!(rt; shown.len() == windows.len());
-    for (got, want) in shown.iter().zip(windows.iter()) {
-        assert!(rt; got.lo() == want.0 && got.hi() == want.1);
-    }
+    assert_eq!(rt; replay.answers(), answers);
+    let shown = replay.sheet().all_windows().iter();
+    assert!(rt; shown.map(|w| (w.lo(), w.hi())).eq(windows.iter().copied()));
     Ok(())
 }
 
@@ -223,7 +216,7 @@ fn refusals_come_in_their_order(rt: HostRuntime) -> Result<(), Fail> {
 #[test]
 fn a_client_spends_its_tickets(rt: HostRuntime) -> Result<(), Fail> {
     let mut sheet = Sheet::new(rt.alloc(), 1, CounterBook)?;
-    assert!(rt; strike_then_keep(&mut sheet) && sheet.tries() == 0);
+    assert!(rt; strike_then_keep(&mut sheet).is_ok() && sheet.tries() == 0);
     Ok(())
 }
 

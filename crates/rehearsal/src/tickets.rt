@@ -3,24 +3,20 @@
 ghost use Rattle.std.specs.Prelude.{◌≡◌};
 
 use books::counter::CounterBook;
+use law::calls::Refusal;
 use runs::settled::Settled;
 use sheet::sheet::Sheet;
 
-/// Opens a try and strikes it, then opens another and keeps it; false where a try cannot be opened.
-pub fn strike_then_keep(sheet: &mut Sheet<CounterBook>) -> bool
+/// Opens a try and strikes it, then opens another and keeps it; refused where a try cannot be opened.
+// Each ticket lies in an `Option`, so that what is wrong with one spent twice, or let go, is a fact that the check refuses.
+pub fn strike_then_keep(sheet: &mut Sheet<CounterBook>) -> Result<(), Refusal>
     ensures { sheet.new.number ≡ sheet.old.number }
 {
-    let Ok(ticket) = sheet.open() else {
-        return false;
-    };
-    let mut first = Some(ticket);
+    let mut first = Some(sheet.open()?);
     sheet.strike(first.take().unwrap()).unwrap();
-    let Ok(ticket) = sheet.open() else {
-        return false;
-    };
-    let mut second = Some(ticket);
+    let mut second = Some(sheet.open()?);
     sheet.keep(second.take().unwrap()).unwrap();
-    true
+    Ok(())
 }
 
 /// What a settle would answer with one pinch more: both are made in a try, which is struck. None where no try can be opened.
@@ -30,9 +26,7 @@ pub(crate) fn try_out(
     lo: u32,
     hi: u32,
 ) -> Option<Settled> {
-    let Ok(ticket) = sheet.open() else {
-        return None;
-    };
+    let ticket = sheet.open().ok()?;
     let _ = sheet.pinch(line, lo, hi);
     let settled = sheet.settle(100_000);
     sheet.strike(ticket).unwrap();

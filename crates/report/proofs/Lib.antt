@@ -1,4 +1,3 @@
-pub mod Adding
 pub mod Rows
 pub mod Traces
 pub mod Once

@@ -7,7 +7,7 @@ use Rattle.law.specs.Sheets.{Model}
 use Rattle.stored.specs.declared.fault.LoadFault.{LoadFault}
 use Rattle.stored.specs.Loads.{Progress, loads}
 use Rattle.stored.specs.Loads as stored-loads
-use Rattle.report.specs.declared.outcome.Outcome.{Outcome}
+use Rattle.report.specs.Refused.{Outcome}
 use Rattle.report.specs.Report.{printable}
 use Rattle.report.specs.Traces.{Comes}
 

@@ -1,4 +1,4 @@
-pub mod Adding
+pub mod Refused
 pub mod Report
 pub mod Traces
 pub mod Concluding

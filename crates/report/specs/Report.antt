@@ -1,38 +1,28 @@
 -- The report of an outcome, byte for byte.
---   spelled    a word: letters, or a number in decimal digits without leading zeros
---   row        a line of words: one space (byte 32) between two words, and byte 10 at its end
---   rows       a line for each window: its number, its lower and its upper end
---   report     the first line, and after an answer of settle the lines of all windows
---   printable  windows as a sheet can have them
--- Assumes nothing.
-use Rattle.std.specs.Prelude.{ℕ, ◌+◌, Bool, true, cond, ◌&&◌, List, [], ◌∷◌, ◌++◌, length, decimal, nat_le}
-use Rattle.std.specs.List.{flat_map}
+--   answer_row   the line of an answer of settle: its word and its number
+--   refused_row  the line of a refusal: its number, and the index of the record
+--   rows         a line for each window: its number, its lower and its upper end
+--   report       the first line, and after an answer of settle the lines of all windows
+--   printable    windows as a sheet can have them
+-- A space (byte 32) stands between two words, byte 10 ends a line, and a number has no leading zeros. Assumes nothing.
+use Rattle.std.specs.Prelude.{ℕ, ◌+◌, Bool, cond, ◌&&◌, List, [], ◌∷◌, ◌++◌, length, drop, codes, decimal, nat_le, Ok, Err}
+use Rattle.std.specs.List.{list_all}
 use Rattle.windows.specs.Spans.{Span}
 use Rattle.runs.specs.declared.settled.Settled.{Settled}
-use Rattle.report.specs.declared.outcome.Outcome.{Outcome}
-use Rattle.report.specs.declared.word.Word.{Word}
-use Rattle.report.specs.Adding.{over}
+use Rattle.report.specs.declared.refused.RefusedAt.{RefusedAt}
+use Rattle.report.specs.Refused.{Outcome}
 
--- The bytes of a word: `standing`, `spent`, `barren`, `refused`, `at`, or a number.
-abbrev pub spelled : Word → List ℕ
-spelled Word.Standing = 115 ∷ 116 ∷ 97 ∷ 110 ∷ 100 ∷ 105 ∷ 110 ∷ 103 ∷ []
-spelled Word.Spent = 115 ∷ 112 ∷ 101 ∷ 110 ∷ 116 ∷ []
-spelled Word.Barren = 98 ∷ 97 ∷ 114 ∷ 114 ∷ 101 ∷ 110 ∷ []
-spelled Word.Refused = 114 ∷ 101 ∷ 102 ∷ 117 ∷ 115 ∷ 101 ∷ 100 ∷ []
-spelled Word.At = 97 ∷ 116 ∷ []
-spelled (Word.Number n) = decimal n
+-- The line of an answer of settle.
+abbrev pub answer_row : List ℕ → ℕ → List ℕ
+answer_row word n = word ++ (32 ∷ (decimal n ++ (10 ∷ [])))
 
--- A word after another: a space, then the word.
-abbrev pub spaced : Word → List ℕ
-spaced w = 32 ∷ spelled w
-
--- A line: its first word, the others, and its end.
-unfoldable pub row : Word → List Word → List ℕ
-row first others = (spelled first ++ flat_map spaced others) ++ (10 ∷ [])
+-- The line of a refusal.
+abbrev pub refused_row : RefusedAt → List ℕ
+refused_row r = codes "refused " ++ (decimal r.number ++ (codes " at " ++ (decimal r.at ++ (10 ∷ []))))
 
 -- The line of the window of line number k.
 abbrev pub window_row : ℕ → Span → List ℕ
-window_row k w = row (Word.Number k) (Word.Number w.lo ∷ Word.Number w.hi ∷ [])
+window_row k w = decimal k ++ (32 ∷ (decimal w.lo ++ (32 ∷ (decimal w.hi ++ (10 ∷ [])))))
 
 -- The lines of the windows, numbered from k on.
 unfoldable pub rows : ℕ → List Span → List ℕ
@@ -41,19 +31,18 @@ rows k (w ∷ ws) = window_row k w ++ rows (k + 1) ws
 
 -- The report: what settle answered and the windows, or the refusal's number and the index of the record.
 abbrev pub report : Outcome → List Span → List ℕ
-report (Outcome.Settled (Settled.Standing count)) ws = row Word.Standing (Word.Number count ∷ []) ++ rows 1 ws
-report (Outcome.Settled (Settled.Spent allowance)) ws = row Word.Spent (Word.Number allowance ∷ []) ++ rows 1 ws
-report (Outcome.Settled (Settled.Barren rule)) ws = row Word.Barren (Word.Number rule ∷ []) ++ rows 1 ws
-report (Outcome.Refused number at) ws = row Word.Refused (Word.Number number ∷ Word.At ∷ Word.Number at ∷ [])
-
--- No end of the windows is above top.
-unfoldable pub up_to : ℕ → List Span → Bool
-up_to top [] = true
-up_to top (w ∷ ws) = nat_le w.hi top && up_to top ws
+report (Ok (Settled.Standing count)) ws = answer_row (codes "standing") count ++ rows 1 ws
+report (Ok (Settled.Spent allowance)) ws = answer_row (codes "spent") allowance ++ rows 1 ws
+report (Ok (Settled.Barren rule)) ws = answer_row (codes "barren") rule ++ rows 1 ws
+report (Err r) ws = refused_row r
 
 -- A sheet has no more than 64 lines, and no code is above 65,535.
 abbrev pub printable : List Span → Bool
-printable ws = up_to 65535 ws && nat_le (length ws) 64
+printable ws = nat_le (length ws) 64 && list_all (λ w. nat_le w.hi 65535) ws
+
+-- The memory with the text at its start; what was after it is as it was.
+abbrev pub over : List ℕ → List ℕ → List ℕ
+over text old = text ++ drop (length text) old
 
 -- The memory after the report: where it has under 1,024 bytes, or the windows are no sheet's, it stays as it was.
 abbrev pub after_report : Outcome → List Span → List ℕ → List ℕ

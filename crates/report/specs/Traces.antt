@@ -9,20 +9,17 @@ use Rattle.windows.specs.Meanings.{Meaning}
 use Rattle.windows.specs.Spans.{Span, Within}
 use Rattle.half.specs.Roundings.{mode_number}
 use Rattle.half.specs.declared.mode.Mode.{Mode}
-use Rattle.books.specs.CounterBooks.{CounterMeets, counter_lines}
-use Rattle.books.specs.HalfBooks.{HalfMeets, half_lines}
-use Rattle.books.specs.Kinds.{counted, two_to_five}
+use Rattle.books.specs.CounterBooks.{counter_meaning}
+use Rattle.books.specs.HalfBooks.{half_meaning}
 use Rattle.law.specs.Boxes.{StandsWithin}
 use Rattle.law.specs.declared.calls.Rule.{Rule}
-use Rattle.runs.specs.Rounds.{Finished, meaning}
+use Rattle.runs.specs.Rounds.{Finished}
 use Rattle.runs.specs.declared.settled.Settled.{Settled}
 use Rattle.stored.specs.declared.fault.LoadFault.{LoadFault}
-use Rattle.stored.specs.Faults.{load_at, load_number}
 use Rattle.stored.specs.Loads.{Progress, bad_length, loads}
 use Rattle.stored.specs.Records.{byte}
-use Rattle.report.specs.declared.outcome.Outcome.{Outcome}
-use Rattle.report.specs.Adding.{over}
-use Rattle.report.specs.Report.{report}
+use Rattle.report.specs.Refused.{Outcome, of_fault, refused_at}
+use Rattle.report.specs.Report.{over, report}
 
 -- The allowance of narrowings.
 abbrev pub allowance : ℕ
@@ -46,16 +43,9 @@ pub record SettlesTo (m : Meaning) (rules : List Rule) (ws vs : List Span) (answ
 
 -- The outcome of a load, and where it was not refused, of the settle after it, which leaves the windows vs.
 pub data Comes (m : Meaning) (loaded : Result Progress LoadFault) (o : Outcome) (vs : List Span) : Type 0 where
-  refused : (f : LoadFault) → loaded ≡ Err f → o ≡ Outcome.Refused (load_number f) (load_at f) → Comes m loaded o vs
-  settles : (p : Progress) (answer : Settled) → loaded ≡ Ok p → o ≡ Outcome.Settled answer
+  refused : (f : LoadFault) → loaded ≡ Err f → o ≡ Err (of_fault f) → Comes m loaded o vs
+  settles : (p : Progress) (answer : Settled) → loaded ≡ Ok p → o ≡ Ok answer
       → SettlesTo m p.sheet.core.rules p.sheet.core.windows vs answer → Comes m loaded o vs
-
--- The meanings of the two books.
-abbrev pub counter_meaning : Meaning
-counter_meaning = meaning 65535 counter_lines (counted two_to_five) CounterMeets
-
-abbrev pub half_meaning : Mode → Meaning
-half_meaning mode = meaning 31743 half_lines (counted two_to_five) (HalfMeets mode)
 
 -- The outcome of a stored sheet, by the drive in byte 2 and the mode in byte 3 of its head (0 where a file is so short):
 -- drive 0 with mode 0, 1 or 2 is the half book of the mode, drive 1 with mode 0 the counter book. Where neither fits, the
@@ -66,7 +56,7 @@ pub data OutcomeOf (input : List ℕ) (o : Outcome) (vs : List Span) : Type 0 wh
   by_counter : byte input 2 ≡ 1 → byte input 3 ≡ 0
       → Comes counter_meaning (loads counter_meaning 0 1 0 input) o vs → OutcomeOf input o vs
   by_none : (byte input 2 ≡ 0 → 2 < byte input 3) → (byte input 2 ≡ 1 → 0 < byte input 3)
-      → o ≡ Outcome.Refused (cond (bad_length (length input)) 10 11) 0 → OutcomeOf input o vs
+      → o ≡ Err (refused_at (cond (bad_length (length input)) 10 11) 0) → OutcomeOf input o vs
 
 -- The report of an outcome that is so stands at the start of the memory; what was after it is as it was. The answer is the
 -- report's length.

@@ -1,132 +1,97 @@
 //! trace: from a stored sheet to its report, over memory that the caller brings.
-ghost use Rattle.std.specs.Prelude.{◌≡◌, ◌≤◌, length, if◌then◌else◌, slice_index};
-ghost use Rattle.law.specs.declared.calls.Call.{Call};
-ghost use Rattle.law.specs.Law.{Called};
+ghost use Rattle.std.specs.Prelude.{◌≡◌, ◌≤◌, length, slice_index, IfOk, OnErr};
 ghost use Rattle.report.specs.Concluding.{Concludes};
-ghost use Rattle.report.specs.declared.outcome.Outcome.{Outcome as AnyOutcome};
 ghost use Rattle.report.specs.Picks.{Picks};
-ghost use Rattle.report.specs.Traces.{Comes, Reported, TraceIn, TraceOf, Traced, allowance};
-ghost use Rattle.sheet.specs.Answers.{settled};
-ghost use Rattle.runs.specs.Rounds.{meaning};
+ghost use Rattle.report.specs.Traces.{Comes, Reported, TraceIn, TraceOf};
 ghost use Rattle.tables.specs.Views.{model};
-ghost use Rattle.stored.specs.Loads.{bad_length, loads};
+ghost use Rattle.stored.specs.Loads.{loads};
 
-use crate::outcome::Outcome;
-use crate::text::write_report;
+use crate::refused::RefusedAt;
+use crate::text::{REPORT_MAX, write_report};
+use books::any_book::AnyBook;
 use books::book::Book;
 use books::counter::CounterBook;
 use books::half_book::HalfBook;
-use law::calls::Refusal;
 use runs::settled::Settled;
-use sheet::sheet::Sheet;
-use std::alloc::Global;
-use stored::load::{Loaded, load_in};
+use std::alloc::{AllocError, Global};
+use std::convert::Infallible;
+use stored::fault::LoadFault;
+use stored::load::{Loaded, badly_long, load_in};
 use tables::room::Room;
 
 /// How many narrowings a settle may make.
 const ALLOWANCE: u32 = 100000;
 
-/// The answer where memory is wanting.
-const NO_MEMORY: usize = 18446744073709551615;
-
-/// Settles a sheet with the allowance of a trace.
-fn settle_loaded<B: Book>(sheet: &mut Sheet<B>) -> Result<Settled, Refusal>
-    ensures { Called (meaning B.top B.arity B.counts (B.related sheet.old.book)) sheet.old.number (model sheet.old.tables) (Call.Settle allowance) (model sheet.new.tables) (settled result) }
-{
-    sheet.settle(ALLOWANCE)
-}
-
-/// The outcome of a load, once the sheet is settled.
-fn conclude<B: Book>(loaded: &mut Loaded<B>) -> Outcome
-    ensures { Concludes (meaning B.top B.arity B.counts (B.related loaded.old.sheet.book)) loaded.old.sheet.number (model loaded.old.sheet.tables) loaded.old.fault result (model loaded.new.sheet.tables).core.windows }
+/// What comes of a load, once the sheet is settled.
+fn conclude<B: Book>(loaded: &mut Loaded<B>) -> Result<Settled, RefusedAt>
+    ensures { Concludes (B.meaning loaded.old.sheet.book) loaded.old.sheet.number (model loaded.old.sheet.tables) loaded.old.fault result (model loaded.new.sheet.tables).core.windows }
 {
     match loaded.fault {
-        Some(fault) => Outcome::Refused {
-            number: fault.number(),
-            at: fault.at(),
-        },
-        None => match settle_loaded(&mut loaded.sheet) {
-            Ok(answer) => Outcome::Settled(answer),
-            Err(why) => Outcome::Refused {
-                number: why.number(),
-                at: 0,
-            },
-        },
+        Some(fault) => Err(fault.into()),
+        None => Ok(loaded.sheet.settle(ALLOWANCE)?),
     }
 }
 
 /// Loads with this book in reserved room, settles and writes the report.
-fn trace_by_in<B: Book + Drop>(room: Room, book: B, input: &[u8], output: &mut [u8]) -> usize
+fn trace_by<B: Book + Drop>(room: Room, book: B, input: &[u8], output: &mut [u8]) -> usize
     requires { 1024 ≤ length output.old }
-    ensures { Reported (Comes (meaning B.top B.arity B.counts (B.related book)) (loads (meaning B.top B.arity B.counts (B.related book)) 0 B.drive (B.mode book) input.now)) output.old output.new result }
+    ensures { Reported (Comes (B.meaning book) (loads (B.meaning book) 0 B.DRIVE (B.mode book) input.now)) output.old output.new result }
 {
     let mut loaded = load_in(room, 0, book, input);
     let outcome = conclude(&mut loaded);
     write_report(outcome, loaded.sheet.all_windows(), output)
 }
 
-/// Loads with this book, settles and writes the report.
-fn trace_by<B: Book + Copy + Drop>(heap: Global, book: B, input: &[u8], output: &mut [u8]) -> usize
-    requires { 1024 ≤ length output.old }
-    ensures { Traced (Comes (meaning B.top B.arity B.counts (B.related book)) (loads (meaning B.top B.arity B.counts (B.related book)) 0 B.drive (B.mode book) input.now)) output.old output.new result }
-{
-    match Room::reserve(heap) {
-        Err(_) => NO_MEMORY,
-        Ok(room) => trace_by_in(room, book, input, output),
-    }
-}
-
-/// The number of the refusal where no book fits.
-fn no_book_number(len: usize) -> u8
-    ensures { result ≡ (if bad_length len then 10 else 11) }
-{
-    if (len == 0) | ((2048 < len) | (len % 8 != 0)) {
-        10
-    } else {
-        11
-    }
-}
-
-/// Writes the report where no book fits.
-fn trace_by_none(input: &[u8], output: &mut [u8]) -> usize
-    requires { 1024 ≤ length output.old }
-    ensures { Reported (λ o _. o ≡ AnyOutcome.Refused (if bad_length (length input.now) then 10 else 11) 0) output.old output.new result }
-{
-    let outcome = Outcome::Refused {
-        number: no_book_number(input.len()),
-        at: 0,
-    };
-    write_report(outcome, &[], output)
-}
-
 /// The byte at a place, 0 where there is none.
 fn byte_at(bytes: &[u8], place: usize) -> u8
     ensures { result ≡ slice_index bytes.now place }
 {
-    if place < bytes.len() { bytes[place] } else { 0 }
+    bytes.get(place).copied().unwrap_or(0)
 }
 
-/// The book that a head names.
-#[derive(Clone, Copy)]
-enum Pick {
-    Half(HalfBook),
-    Counter,
-    NoBook,
-}
-
-/// Picks the book of a drive and a mode.
-fn book_for(drive: u8, mode: u8) -> Pick
-    ensures { Picks drive mode result }
+/// The book that the head of a stored sheet names, or why none fits.
+fn book_for(input: &[u8]) -> Result<AnyBook, LoadFault>
+    ensures { Picks input.now result }
 {
-    if drive == 0 {
-        match HalfBook::new(mode) {
-            Ok(book) => Pick::Half(book),
-            Err(_) => Pick::NoBook,
+    match (byte_at(input, 2), byte_at(input, 3)) {
+        (0, mode) => {
+            if let Ok(book) = HalfBook::new(mode) {
+                return Ok(AnyBook::Half(book));
+            }
         }
-    } else if (drive == 1) & (mode == 0) {
-        Pick::Counter
+        (1, 0) => return Ok(AnyBook::Counter),
+        _ => {}
+    }
+    Err(if badly_long(input.len()) {
+        LoadFault::Length
     } else {
-        Pick::NoBook
+        LoadFault::Head
+    })
+}
+
+/// Traces in the room that `reserve` brings. It is called only where a book fits.
+fn trace_with<E, F: FnOnce() -> Result<Room, E> + Drop>(
+    reserve: F,
+    input: &[u8],
+    output: &mut [u8],
+) -> Result<usize, E>
+    requires { F.IsAlwaysCallable reserve }
+    ensures ok { IfOk result (TraceIn input.now output.old output.new) }
+    ensures room { OnErr result (1024 ≤ length output.old) }
+    ensures err { OnErr result (output.new ≡ output.old) }
+{
+    // 0 and not an error: C is told so, and `TraceIn` fixes it (docs/report.md).
+    if output.len() < REPORT_MAX {
+        return Ok(0);
+    }
+    let book = match book_for(input) {
+        Ok(book) => book,
+        Err(fault) => return Ok(write_report(Err(fault.into()), &[], output)),
+    };
+    let room = reserve()?;
+    match book {
+        AnyBook::Half(book) => Ok(trace_by(room, book, input, output)),
+        AnyBook::Counter => Ok(trace_by(room, CounterBook, input, output)),
     }
 }
 
@@ -134,15 +99,18 @@ fn book_for(drive: u8, mode: u8) -> Pick
 pub fn trace_in(room: Room, input: &[u8], output: &mut [u8]) -> usize
     ensures { TraceIn input.now output.old output.new result }
 {
-    if output.len() >= 1024 {
-        match book_for(byte_at(input, 2), byte_at(input, 3)) {
-            Pick::Half(book) => trace_by_in(room, book, input, output),
-            Pick::Counter => trace_by_in(room, CounterBook, input, output),
-            Pick::NoBook => trace_by_none(input, output),
-        }
-    } else {
-        0
-    }
+    let Ok(length) = trace_with(|| Ok::<Room, Infallible>(room), input, output);
+    length
+}
+
+/// The same as `trace`, but where memory for the sheet is wanting it answers so, and writes nothing.
+pub fn try_trace(heap: Global, input: &[u8], output: &mut [u8]) -> Result<usize, AllocError>
+    ensures ok { IfOk result (TraceIn input.now output.old output.new) }
+    ensures short { IfOk result (λ n. n ≤ 1024) }
+    ensures room { OnErr result (1024 ≤ length output.old) }
+    ensures err { OnErr result (output.new ≡ output.old) }
+{
+    trace_with(|| Room::reserve(heap), input, output)
 }
 
 /// Reads a stored sheet from `input`, settles it with an allowance of 100,000 narrowings, writes its report at the start of
@@ -151,14 +119,5 @@ pub fn trace_in(room: Room, input: &[u8], output: &mut [u8]) -> usize
 pub fn trace(heap: Global, input: &[u8], output: &mut [u8]) -> usize
     ensures { TraceOf input.now output.old output.new result }
 {
-    if output.len() < 1024 {
-        return 0;
-    }
-    let drive = byte_at(input, 2);
-    let mode = byte_at(input, 3);
-    match book_for(drive, mode) {
-        Pick::Half(book) => trace_by(heap, book, input, output),
-        Pick::Counter => trace_by(heap, CounterBook, input, output),
-        Pick::NoBook => trace_by_none(input, output),
-    }
+    try_trace(heap, input, output).unwrap_or(usize::MAX)
 }

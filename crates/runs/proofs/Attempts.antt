@@ -1,11 +1,12 @@
 -- What a book's answer to the windows of a rule says of the rule's try. Assumes nothing.
-use Rattle.std.proofs.Common.{◌≡◌, ℕ, ◌<◌, ◌⊎◌, List, [], ◌∷◌, ◌++◌, map, length, sym, ap, ◌∙◌, subst, ap₂, subst₂, inl, inr, arith, take-append-drop}
+use Rattle.books.specs.declared.narrowing.Unfit.{Unfit}
+use Rattle.std.proofs.Common.{Err, ◌≡◌, ℕ, ◌<◌, ◌⊎◌, List, [], ◌∷◌, ◌++◌, map, length, sym, ap, ◌∙◌, subst, ap₂, subst₂, inl, inr, arith, take-append-drop}
 use Rattle.std.proofs.lemmas.List.{take-map}
 use Rattle.windows.specs.Spans.{Span, Every}
 use Rattle.windows.specs.Choices.{NoChoice, Smallest}
 use Rattle.windows.specs.Meanings.{Meaning}
-use Rattle.books.specs.declared.narrowing.Triple.{Triple}
-use Rattle.books.specs.declared.narrowing.Narrowing.{Narrowing}
+use Rattle.boxes.specs.declared.triple.Triple.{Triple}
+use Rattle.windows.specs.declared.window.Window.{Window}
 use Rattle.books.specs.Narrowings.{Answered, Closes, Fit, UpTo, read, spans}
 use Rattle.law.specs.declared.calls.Rule.{Rule}
 use Rattle.law.specs.Sheets.{window, named, windows_of}
@@ -36,20 +37,20 @@ module _ (m : Meaning) (ws : List Span) (r : Rule) where
   }
 
   -- What the book answered to the windows, read as `before`.
-  module _ (before : Triple) (is : spans before ≡ three) where
-    pub not_unfit : FitTry m ws r → Answered m.top (m.arity r.kind) (m.related r.kind) (spans before) Narrowing.Unfit → ⊥
-    not_unfit f h = h (subst (Fit m.top (m.arity r.kind)) (sym is) (never_unfit f.fits f.rule_fits))
+  module _ (before : Triple Window) (is : spans before ≡ three) where
+    pub not_unfit : (unfit : Unfit) → FitTry m ws r → Answered m.top (m.arity r.kind) (m.related r.kind) (spans before) (Err unfit) → ⊥
+    not_unfit unfit f h = h (subst (Fit m.top (m.arity r.kind)) (sym is) (never_unfit f.fits f.rule_fits))
 
     pub none_is : NoChoice (m.related r.kind) (read (m.arity r.kind) (spans before)) → HasNone m ws r
     none_is h = subst (NoChoice (m.related r.kind)) (ap (read (m.arity r.kind)) is ∙ reads) h
 
     -- the smallest box is what the windows are already
-    pub still_is : (t : Triple) → Closes (m.arity r.kind) (m.related r.kind) (spans before) (spans t) → spans t ≡ spans before → Still m ws r
+    pub still_is : (t : Triple Window) → Closes (m.arity r.kind) (m.related r.kind) (spans before) (spans t) → spans t ≡ spans before → Still m ws r
     still_is t h e =
         subst₂ (Smallest (m.related r.kind)) (ap (read (m.arity r.kind)) is ∙ reads) (ap (read (m.arity r.kind)) (e ∙ is) ∙ reads) h.smallest
 
     -- it is not
-    pub narrows_is : (t : Triple) → Closes (m.arity r.kind) (m.related r.kind) (spans before) (spans t) → (spans t ≡ spans before → ⊥) → Narrows m ws r (read (m.arity r.kind) (spans t))
+    pub narrows_is : (t : Triple Window) → Closes (m.arity r.kind) (m.related r.kind) (spans before) (spans t) → (spans t ≡ spans before → ⊥) → Narrows m ws r (read (m.arity r.kind) (spans t))
     narrows_is t h other = record {
       smallest = subst (λ (us : List Span). Smallest (m.related r.kind) us (read (m.arity r.kind) (spans t))) (ap (read (m.arity r.kind)) is ∙ reads) h.smallest;
       other = λ e. other

@@ -1,5 +1,4 @@
 pub mod Attempts
-pub mod Bits
 pub mod Rounds
 pub mod RuleSets
 pub mod Turns

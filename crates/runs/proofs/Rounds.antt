@@ -1,5 +1,5 @@
 -- What a round keeps true from rule to rule. Assumes nothing.
-use Rattle.std.proofs.Common.{◌≡◌, ℕ, zero, suc, ◌+◌, ◌-◌, ◌<◌, ◌≤◌, Bool, true, false, List, ◌∷◌, length, get_or, drop, sym, refl, ap, subst, add-zero, add-one, arith}
+use Rattle.std.proofs.Common.{◌≡◌, ℕ, suc, ◌+◌, ◌<◌, ◌≤◌, Bool, true, false, List, ◌∷◌, length, get_or, drop, sym, refl, ap, subst, add-one}
 use Rattle.std.proofs.lemmas.List.{drop_more, drop_all}
 use Rattle.windows.specs.Spans.{Span, Every}
 use Rattle.windows.specs.Meanings.{Meaning}
@@ -76,21 +76,6 @@ module _ (m : Meaning) (rules : List Rule) (n : ℕ) where
       -- a narrowing for which there is no room: the run ends spent
       pub ends_spent : Going c₀ ws₀ i moved c ws → (us : List Span) → Narrows m ws r us → n ≤ c → Run m rules n rules 1 false c₀ ws₀ (spent ws)
       ends_spent g us h full = tried g (spent ws) (too_many h full)
-
-    module _ (i : ℕ) (moved : Bool) (c : ℕ) (ws : List Span) (g : Going c₀ ws₀ i moved c ws) where
-      -- the next d rules are still: on past them
-      skip_by : (d : ℕ) → i + d ≤ length rules → ((j : ℕ) → i ≤ j → j < i + d → Still m ws (get_or rules j no_rule)) → Going c₀ ws₀ (i + d) moved c ws
-      skip_by zero l s = subst (λ (k : ℕ). Going c₀ ws₀ k moved c ws) (sym (add-zero i)) g
-      skip_by (suc d) l s =
-          let e : i + d + 1 ≡ i + suc d = omega arith in
-          subst (λ (k : ℕ). Going c₀ ws₀ k moved c ws) e
-          (on_still (i + d) moved c ws (omega arith) (skip_by d (omega arith) (λ j p q. s j p (omega arith))) (s (i + d) (omega arith) (omega arith)))
-
-      -- all rules from here up to rule k + 1 are still: on to that
-      pub skip : (k : ℕ) → i ≤ k → k ≤ length rules → ((j : ℕ) → i ≤ j → j < k → Still m ws (get_or rules j no_rule)) → Going c₀ ws₀ k moved c ws
-      skip k l h s =
-          let e : i + (k - i) ≡ k = omega arith in
-          subst (λ (x : ℕ). Going c₀ ws₀ x moved c ws) e (skip_by (k - i) (omega arith) (λ j p q. s j p (omega arith)))
 
     module _ (i c : ℕ) (ws : List Span) (over : length rules ≤ i) where
       -- a round without a narrowing: the run ends standing

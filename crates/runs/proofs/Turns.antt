@@ -1,63 +1,104 @@
 -- The turns of a round: rules that are asleep are passed over, one that was tried goes to sleep.
--- Assumes that the naming lists every rule at its lines.
-use Rattle.std.proofs.Common.{◌≡◌, ℕ, ◌+◌, ◌<◌, ◌≤◌, Bool, true, List, length, get_or, Some, None, sym, subst, arith}
+-- Assumes nothing.
+use Rattle.std.proofs.Common.{◌≡◌, ℕ, ◌+◌, ◌<◌, ◌≤◌, Bool, true, false, List, length, get_or, ltb, le_refl, sym, refl, subst, arith}
+use Rattle.std.proofs.lemmas.Bool.{le-ltb, lt-ltb, ltb-false, ltb-true}
 use Rattle.windows.specs.Spans.{Span}
 use Rattle.windows.specs.Meanings.{Meaning}
 use Rattle.law.specs.declared.calls.Rule.{Rule}
-use Rattle.law.specs.Sheets.{named, put}
-use Rattle.law.specs.Runs.{Still, Narrows}
-use Rattle.runs.specs.declared.naming.Naming.{Naming}
+use Rattle.law.specs.Runs.{Ending, standing, spent, barren, Still, Run}
 use Rattle.runs.specs.declared.rule_set.RuleSet.{RuleSet}
-use Rattle.runs.specs.RuleSets.{Next, has}
-use Rattle.runs.specs.Wakes.{Calm, Indexed, Woken, no_rule}
-use Rattle.runs.proofs.Rounds.{Going, skip, fit_try, on_still, on_narrowed}
-use Rattle.runs.proofs.Wakes.{narrowed_still, quiet_moved, quiet_less}
+use Rattle.runs.specs.declared.wake.Agenda.{Agenda}
+use Rattle.runs.specs.declared.run.Attempt.{Attempt}
+use Rattle.runs.specs.Rounds.{Attempted, FitTry}
+use Rattle.runs.specs.RuleSets.{has}
+use Rattle.runs.specs.Wakes.{Calm, Woken, no_rule}
+use Rattle.runs.proofs.Rounds.{Going, set_out, fit_try, on_still, on_narrowed, ends_barren, ends_spent, ends_quiet, goes_round}
+use Rattle.runs.proofs.Wakes.{calm_kept, listed_moved, narrowed_still, quiet_moved, quiet_less}
 
 module _ (m : Meaning) (rules : List Rule) (n c₀ : ℕ) (ws₀ : List Span) where
-  -- The round stands before rule i + 1, and every rule that is asleep is still.
-  pub record At (i : ℕ) (q : Bool) (c : ℕ) (ws : List Span) (s : RuleSet) : Type 0 where
-    pub going : Going m rules n c₀ ws₀ i q c ws
-    pub calm : Calm m rules s ws
+  -- The round stands before rule i + 1, and every rule that is asleep is still; it moved where it counts more than at its start.
+  pub record At (i c : ℕ) (ws : List Span) (a : Agenda) : Type 0 where
+    pub going : Going m rules n c₀ ws₀ i (ltb c₀ c) c ws
+    pub calm : Calm m rules a ws
 
-  module _ (i : ℕ) (q : Bool) (c : ℕ) (ws : List Span) (s : RuleSet) (at : At i q c ws s) where
-    -- on to the next rule that is awake
-    pub at_next : (k : ℕ) → Next s i (length rules) (Some k) → At k q c ws s
-    at_next k h = record {
-      going = skip m rules n c₀ ws₀ i q c ws at.going k h.0 (omega (arith, h.1)) (λ j p l. at.calm.quiet j (omega (arith, h.1)) (h.3 j p l));
+  -- the round begins
+  pub at_first : (a : Agenda) → Calm m rules a ws₀ → At 0 c₀ ws₀ a
+  at_first a calm = record {
+    going = subst (λ (q : Bool). Going m rules n c₀ ws₀ 0 q c₀ ws₀) (sym (le-ltb c₀ c₀ (le_refl c₀))) (set_out m rules n c₀ ws₀ calm.ready);
+    calm = calm;
+  }
+
+  module _ (i c : ℕ) (ws : List Span) (a : Agenda) (here : i < length rules) (at : At i c ws a) where
+    -- a rule that is asleep is passed over
+    pub at_asleep : has a.awake i ≡ false → At (i + 1) c ws a
+    at_asleep h = record {
+      going = on_still m rules n c₀ ws₀ i (ltb c₀ c) c ws here at.going (at.calm.quiet i here h);
       calm = at.calm;
     }
 
-    -- none is: the round is over
-    pub at_end : i ≤ length rules → Next s i (length rules) None → At (length rules) q c ws s
-    at_end l h = record {
-      going = skip m rules n c₀ ws₀ i q c ws at.going (length rules) l (omega arith) (λ j p less. at.calm.quiet j less (h j p less));
-      calm = at.calm;
-    }
+    -- The rule that is tried.
+    abbrev r : Rule
+    r = get_or rules i no_rule
 
-  module _ (naming : Naming) (listed : Indexed rules naming) (ws vs : List Span) (s t : RuleSet) (few : length ws ≤ 64) (woken : Woken naming ws s vs t) where
-    module _ (i : ℕ) (here : i < length rules) (q : Bool) (c : ℕ) (u : RuleSet) (less : (j : ℕ) → (j ≡ i → ⊥) → has u j ≡ has t j) (at : At i q c ws s) where
-      -- The rule that was tried.
-      abbrev r : Rule
-      r = get_or rules i no_rule
+    -- The try led to the windows vs, and woke rules.
+    module _ (b : Agenda) (vs : List Span) (few : length ws ≤ 64) (woken : Woken a ws b vs) where
+      -- it had no choice: the run ends with its number
+      pub ends_none : (FitTry m ws r → Attempted m r (ltb c n) ws vs Attempt.NoChoice) → Calm m rules b vs × Run m rules n rules 1 false c₀ ws₀ (barren (i + 1))
+      ends_none tried =
+          let h = tried (fit_try m rules n c₀ ws₀ i (ltb c₀ c) c ws here at.going) in
+          (calm_kept a b ws vs few woken m rules at.calm h.1, ends_barren m rules n c₀ ws₀ i (ltb c₀ c) c ws here at.going h.0)
+
+      -- there was no room for its narrowing: the run ends spent
+      pub ends_full : (FitTry m ws r → Attempted m r (ltb c n) ws vs Attempt.LeftUndone) → Calm m rules b vs × (Run m rules n rules 1 false c₀ ws₀ (spent vs) × (n ≡ n))
+      ends_full tried =
+          let h = tried (fit_try m rules n c₀ ws₀ i (ltb c₀ c) c ws here at.going) in (
+            calm_kept a b ws vs few woken m rules at.calm h.2,
+            (
+              subst (λ (us : List Span). Run m rules n rules 1 false c₀ ws₀ (spent us)) (sym h.2)
+                  (ends_spent m rules n c₀ ws₀ i (ltb c₀ c) c ws here at.going h.0 h.1 (ltb-false c n h.3)),
+              refl,
+            ),
+          )
 
       -- it goes to sleep, for it is still on the windows that it left
-      asleep : (q' : Bool) (d : ℕ) → Going m rules n c₀ ws₀ (i + 1) q' d vs → Still m vs r → At (i + 1) q' d vs u
-      asleep q' d going still = record {
-        going = going;
-        calm = record {
-          ready = going.ready;
-          quiet = quiet_less m rules vs i t u (quiet_moved naming ws vs s t few woken m rules listed at.calm) still less;
-        };
-      }
+      module _ (u : RuleSet) (less : (j : ℕ) → (j ≡ i → ⊥) → has u j ≡ has b.awake j) where
+        asleep : (d : ℕ) → Going m rules n c₀ ws₀ (i + 1) (ltb c₀ d) d vs → Still m vs r → At (i + 1) d vs (record { naming = b.naming; awake = u })
+        asleep d going still = record {
+          going = going;
+          calm = record {
+            ready = going.ready;
+            listed = listed_moved a b ws vs few woken rules at.calm.listed;
+            quiet = quiet_less m rules vs i b.awake u (quiet_moved a b ws vs few woken m rules at.calm) still less;
+          };
+        }
 
-      -- it closed nothing
-      pub at_still : vs ≡ ws → Still m ws r → At (i + 1) q c vs u
-      at_still e h =
-          asleep q c (subst (Going m rules n c₀ ws₀ (i + 1) q c) (sym e) (on_still m rules n c₀ ws₀ i q c ws here at.going h))
-          (subst (λ (xs : List Span). Still m xs r) (sym e) h)
+        -- it closed nothing
+        pub at_still : (FitTry m ws r → Attempted m r (ltb c n) ws vs Attempt.Still) → At (i + 1) c vs (record { naming = b.naming; awake = u })
+        at_still tried =
+            let h = tried (fit_try m rules n c₀ ws₀ i (ltb c₀ c) c ws here at.going) in
+            asleep c (subst (Going m rules n c₀ ws₀ (i + 1) (ltb c₀ c) c) (sym h.1) (on_still m rules n c₀ ws₀ i (ltb c₀ c) c ws here at.going h.0))
+            (subst (λ (xs : List Span). Still m xs r) (sym h.1) h.0)
 
-      -- it narrowed
-      pub at_narrowed : (us : List Span) → Narrows m ws r us → c < n → vs ≡ put (named m r) us ws → At (i + 1) true (c + 1) vs u
-      at_narrowed us h room e =
-          asleep true (c + 1) (subst (Going m rules n c₀ ws₀ (i + 1) true (c + 1)) (sym e) (on_narrowed m rules n c₀ ws₀ i q c ws here at.going us h room))
-          (subst (λ (xs : List Span). Still m xs r) (sym e) (narrowed_still m ws r us (fit_try m rules n c₀ ws₀ i q c ws here at.going).rule_fits h))
+        -- it narrowed
+        pub at_narrowed : c₀ ≤ c → (FitTry m ws r → Attempted m r (ltb c n) ws vs Attempt.Narrowed) → At (i + 1) (c + 1) vs (record { naming = b.naming; awake = u })
+        at_narrowed l tried =
+            let fit = fit_try m rules n c₀ ws₀ i (ltb c₀ c) c ws here at.going in
+            let h = tried fit in
+            let going : Going m rules n c₀ ws₀ (i + 1) true (c + 1) vs =
+            subst (Going m rules n c₀ ws₀ (i + 1) true (c + 1)) (sym h.2) (on_narrowed m rules n c₀ ws₀ i (ltb c₀ c) c ws here at.going h.0 h.1 (ltb-true c n h.3)) in
+            asleep (c + 1) (subst (λ (q : Bool). Going m rules n c₀ ws₀ (i + 1) q (c + 1) vs) (sym (lt-ltb c₀ (c + 1) (omega arith))) going)
+            (subst (λ (xs : List Span). Still m xs r) (sym h.2) (narrowed_still m ws r h.0 fit.rule_fits h.1))
+
+  -- all rules were tried or passed over
+  module _ (i c : ℕ) (ws : List Span) (a : Agenda) (over : length rules ≤ i) (at : At i c ws a) where
+    -- and none narrowed: the run ends standing
+    pub ends_still : c ≡ c₀ → Calm m rules a ws × Run m rules n rules 1 false c₀ ws₀ (standing c ws)
+    ends_still e =
+        let going : Going m rules n c₀ ws₀ i false c ws = subst (λ (q : Bool). Going m rules n c₀ ws₀ i q c ws) (le-ltb c₀ c (omega arith)) at.going in
+        (at.calm, ends_quiet m rules n c₀ ws₀ i c ws over going)
+
+    -- and some did: another round follows
+    pub ends_moved : c₀ < c → Calm m rules a ws × ((e : Ending) → Run m rules n rules 1 false c ws e → Run m rules n rules 1 false c₀ ws₀ e)
+    ends_moved l =
+        let going : Going m rules n c₀ ws₀ i true c ws = subst (λ (q : Bool). Going m rules n c₀ ws₀ i q c ws) (lt-ltb c₀ c l) at.going in
+        (at.calm, goes_round m rules n c₀ ws₀ i c ws over going)

@@ -1,11 +1,11 @@
 -- Rules that wake, and rules that stay still.
 --   asleep   a rule that is not awake
 -- Assumes what each lemma states.
-use Rattle.std.proofs.Common.{◌≡◌, ℕ, ◌-◌, ◌<◌, ◌≤◌, true, false, ◌||◌, eqb, List, [], ◌∷◌, ◌++◌, map, length, get_or, take, drop, set, sym, refl, ap, ◌∙◌, subst, ap₂, inl, inr, arith, length-set, take-append-drop}
+use Rattle.std.proofs.Common.{◌≡◌, ℕ, ◌-◌, ◌<◌, ◌≤◌, true, false, ◌||◌, eqb, List, [], ◌∷◌, ◌++◌, map, length, get_or, take, drop, set, sym, refl, ◌∙◌, subst, ap₂, inl, inr, arith, length-set, take-append-drop}
 use lib.ListN.{length-map}
 use borrow.Author.Tests.{eqb-false}
 use Rattle.std.proofs.lemmas.List.{get_or-set_same, get_or-set_other}
-use Rattle.std.proofs.lemmas.Bool.{cases_eq, cases_lt, cases_Bool, both_ways, or_left, or_right, or_parts}
+use Rattle.std.proofs.lemmas.Bool.{cases_eq, cases_Bool, both_ways, or_left, or_right, or_parts}
 use Rattle.windows.specs.Spans.{Span, Every, nowhere}
 use Rattle.windows.specs.Choices.{Choice, Supported, Smallest}
 use Rattle.windows.specs.Meanings.{Meaning}
@@ -15,41 +15,26 @@ use Rattle.law.specs.Sheets.{window, named, windows_of, put}
 use Rattle.law.specs.Runs.{Still, Narrows}
 use Rattle.law.specs.Sound.{IsLine, FitRule}
 use Rattle.law.specs.Table.{repeats, some_of}
-use Rattle.runs.specs.declared.naming.Naming.{Naming}
 use Rattle.runs.specs.declared.rule_set.RuleSet.{RuleSet}
+use Rattle.runs.specs.declared.wake.Agenda.{Agenda}
 use Rattle.runs.specs.Rounds.{Ready}
 use Rattle.runs.specs.RuleSets.{has}
 use Rattle.runs.specs.Wakes.{Calm, Indexed, Listed, Woken, no_rule, rules_of}
 
 -- where nothing moves no rule has to wake
-pub woken_same : (naming : Naming) (ws : List Span) (s : RuleSet) → Woken naming ws s ws s
-woken_same naming ws s = record { kept = λ j h. h; woken = λ p l. inl refl }
-
--- one move after another
-pub woken_twice :
-    (naming : Naming) (ws vs us : List Span) (s t u : RuleSet) → Woken naming ws s vs t → Woken naming vs t us u → Woken naming ws s us u
-woken_twice naming ws vs us s t u f g = record {
-  kept = λ j h. g.kept j (f.kept j h);
-  woken = λ p l.
-      elim (g.woken p l) [
-        | inl e ↦ elim (f.woken p l) [ inl e' ↦ inl (e ∙ e') | inr w ↦ inr (λ j h. g.kept j (w j h)) ]
-        | inr w ↦ inr w
-      ];
-}
+pub woken_same : (a : Agenda) (ws : List Span) → Woken a ws a ws
+woken_same a ws = record { naming = refl; kept = λ j h. h; woken = λ p l. inl refl }
 
 -- the window of one line is put, and the rules that name the line wake
 pub woken_put :
-    (naming : Naming) (ws : List Span) (p : ℕ) (w : Span) (s t : RuleSet) →
-    (p < 64 → (j : ℕ) → has t j ≡ (has s j || has (rules_of naming p) j)) → (64 ≤ p → t ≡ s) → Woken naming ws s (set ws p w) t
-woken_put naming ws p w s t h past = record {
-  kept = λ j l.
-      elim (cases_lt p 64) [
-        | inl less ↦ h less j ∙ or_left (has s j) (has (rules_of naming p) j) l
-        | inr more ↦ ap (λ (x : RuleSet). has x j) (past more) ∙ l
-      ];
+    (a b : Agenda) (ws : List Span) (p : ℕ) (w : Span) → b.naming ≡ a.naming →
+    ((j : ℕ) → has b.awake j ≡ (has a.awake j || has (rules_of a.naming p) j)) → Woken a ws b (set ws p w)
+woken_put a b ws p w e h = record {
+  naming = e;
+  kept = λ j l. h j ∙ or_left (has a.awake j) (has (rules_of a.naming p) j) l;
   woken = λ q less.
       elim (cases_eq q p) [
-        | inl e ↦ inr (λ j l. h (omega arith) j ∙ or_right (has s j) (has (rules_of naming p) j) (subst (λ (k : ℕ). has (rules_of naming k) j ≡ true) e l))
+        | inl e ↦ inr (λ j l. h j ∙ or_right (has a.awake j) (has (rules_of a.naming p) j) (subst (λ (k : ℕ). has (rules_of a.naming k) j ≡ true) e l))
         | inr f ↦ inl (get_or-set_other ws p q w nowhere f)
       ];
 }
@@ -109,38 +94,46 @@ narrowed_still m ws r us fit s =
 still_kept : (m : Meaning) (ws vs : List Span) (r : Rule) → windows_of m vs r ≡ windows_of m ws r → Still m ws r → Still m vs r
 still_kept m ws vs r e s = subst (λ (us : List Span). Smallest (m.related r.kind) us us) (sym e) s
 
-module _ (naming : Naming) (ws vs : List Span) (s t : RuleSet) (few : length ws ≤ 64) (w : Woken naming ws s vs t) where
+module _ (a b : Agenda) (ws vs : List Span) (few : length ws ≤ 64) (w : Woken a ws b vs) where
   -- the lines of a rule that is asleep have the windows that they had
-  unmoved : (j : ℕ) → has t j ≡ false → (ks : List ℕ) → Every (Listed naming j) ks → Every (IsLine (length ws)) ks → map (window vs) ks ≡ map (window ws) ks
+  unmoved : (j : ℕ) → has b.awake j ≡ false → (ks : List ℕ) → Every (Listed a.naming j) ks → Every (IsLine (length ws)) ks → map (window vs) ks ≡ map (window ws) ks
   unmoved j asleep [] listed there = refl
   unmoved j asleep (k ∷ ks) listed there =
       ap₂ ◌∷◌
       (elim (w.woken (k - 1) (omega (arith, there.0.there))) [
         | inl e ↦ e
-        | inr f ↦ absurd (both_ways (has t j) asleep (f j (listed.0 there.0.above_zero (omega (arith, there.0.there)))))
+        | inr f ↦ absurd (both_ways (has b.awake j) asleep (f j (listed.0 there.0.above_zero (omega (arith, there.0.there)))))
       ])
       (unmoved j asleep ks listed.1 there.1)
 
   -- a rule that is asleep after the move was so before
-  slept : (j : ℕ) → has t j ≡ false → has s j ≡ false
-  slept j asleep = elim (cases_Bool (has s j)) [ inl h ↦ absurd (both_ways (has t j) asleep (w.kept j h)) | inr h ↦ h ]
+  slept : (j : ℕ) → has b.awake j ≡ false → has a.awake j ≡ false
+  slept j asleep = elim (cases_Bool (has a.awake j)) [ inl h ↦ absurd (both_ways (has b.awake j) asleep (w.kept j h)) | inr h ↦ h ]
 
   -- so that it is still
   pub quiet_moved :
-      (m : Meaning) (rules : List Rule) → Indexed rules naming → Calm m rules s ws →
-      (j : ℕ) → j < length rules → has t j ≡ false → Still m vs (get_or rules j no_rule)
-  quiet_moved m rules listed calm j l asleep =
+      (m : Meaning) (rules : List Rule) → Calm m rules a ws →
+      (j : ℕ) → j < length rules → has b.awake j ≡ false → Still m vs (get_or rules j no_rule)
+  quiet_moved m rules calm j l asleep =
       let r = get_or rules j no_rule in
       let fit : FitRule m (length ws) (get_or rules j no_rule) = every_at (FitRule m (length ws)) rules j no_rule calm.ready.rules_fit l in
-      let all : Every (Listed naming j) (take (m.arity r.kind) (r.a ∷ r.b ∷ r.c ∷ []) ++ drop (m.arity r.kind) (r.a ∷ r.b ∷ r.c ∷ [])) =
-      subst (Every (Listed naming j)) (sym (take-append-drop (m.arity r.kind) (r.a ∷ r.b ∷ r.c ∷ []))) (listed j l) in
+      let all : Every (Listed a.naming j) (take (m.arity r.kind) (r.a ∷ r.b ∷ r.c ∷ []) ++ drop (m.arity r.kind) (r.a ∷ r.b ∷ r.c ∷ [])) =
+      subst (Every (Listed a.naming j)) (sym (take-append-drop (m.arity r.kind) (r.a ∷ r.b ∷ r.c ∷ []))) (calm.listed j l) in
       still_kept m ws vs r
-      (unmoved j asleep (named m r) (every_left (Listed naming j) (named m r) (drop (m.arity r.kind) (r.a ∷ r.b ∷ r.c ∷ [])) all) fit.lines_there)
+      (unmoved j asleep (named m r) (every_left (Listed a.naming j) (named m r) (drop (m.arity r.kind) (r.a ∷ r.b ∷ r.c ∷ [])) all) fit.lines_there)
       (calm.quiet j l (slept j asleep))
 
+  -- the rules are named as they were
+  pub listed_moved : (rules : List Rule) → Indexed rules a.naming → Indexed rules b.naming
+  listed_moved rules h = subst (Indexed rules) (sym w.naming) h
+
   -- where nothing moved nothing changes
-  pub calm_kept : (m : Meaning) (rules : List Rule) → Indexed rules naming → Calm m rules s ws → vs ≡ ws → Calm m rules t vs
-  calm_kept m rules listed calm e = record { ready = subst (Ready m rules) (sym e) calm.ready; quiet = quiet_moved m rules listed calm }
+  pub calm_kept : (m : Meaning) (rules : List Rule) → Calm m rules a ws → vs ≡ ws → Calm m rules b vs
+  calm_kept m rules calm e = record {
+    ready = subst (Ready m rules) (sym e) calm.ready;
+    listed = listed_moved rules calm.listed;
+    quiet = quiet_moved m rules calm;
+  }
 
 -- a rule that is still goes to sleep
 pub quiet_less :
@@ -153,7 +146,3 @@ quiet_less m rules vs i t u quiet s same j l asleep =
       | inl e ↦ subst (λ (k : ℕ). Still m vs (get_or rules k no_rule)) (sym e) s
       | inr f ↦ quiet j l (sym (same j f) ∙ asleep)
     ]
-
--- at first every rule is awake
-pub calm_awake : (m : Meaning) (rules : List Rule) (s : RuleSet) (ws : List Span) → Ready m rules ws → ((j : ℕ) → j < length rules → has s j ≡ true) → Calm m rules s ws
-calm_awake m rules s ws ready all = record { ready = ready; quiet = λ j l asleep. absurd (both_ways (has s j) asleep (all j l)) }

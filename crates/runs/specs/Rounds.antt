@@ -3,9 +3,9 @@
 --   attempt   the try of one rule, where there may be room for one more narrowing or not
 --   round     the tries of all rules, one after the other
 -- Assumes nothing.
-use Rattle.std.specs.Prelude.{◌≡◌, ℕ, ◌+◌, ◌<◌, Bool, true, false, List, length}
+use Rattle.std.specs.Prelude.{◌≡◌, ℕ, ◌+◌, ◌<◌, Bool, true, false, List, length, Ok, Err, Result}
 use Rattle.windows.specs.Spans.{Span, Every}
-use Rattle.windows.specs.Meanings.{Counts, Meaning}
+use Rattle.windows.specs.Meanings.{Meaning}
 use Rattle.law.specs.declared.calls.Answer.{Answer}
 use Rattle.law.specs.declared.calls.Rule.{Rule}
 use Rattle.law.specs.declared.calls.State.{State}
@@ -14,12 +14,7 @@ use Rattle.law.specs.Runs.{Ending, standing, spent, barren, HasNone, Still, Narr
 use Rattle.law.specs.Steps.{told}
 use Rattle.law.specs.Sound.{Fits, FitRule}
 use Rattle.runs.specs.declared.run.Attempt.{Attempt}
-use Rattle.runs.specs.declared.run.Round.{Round}
 use Rattle.runs.specs.declared.settled.Settled.{Settled}
-
--- The meaning of a book.
-abbrev pub meaning : (top : ℕ) (arity : ℕ → ℕ) → Counts arity → (ℕ → List ℕ → Type 0) → Meaning
-meaning top arity counts related = record { top = top; arity = arity; related = related; counts = counts }
 
 -- The windows and the rule are in order.
 pub record FitTry (m : Meaning) (ws : List Span) (r : Rule) : Type 0 where
@@ -38,19 +33,17 @@ Attempted m r room ws vs Attempt.Still = Still m ws r × (vs ≡ ws)
 Attempted m r room ws vs Attempt.Narrowed = (us : List Span) × Narrows m ws r us × (vs ≡ put (named m r) us ws) × (room ≡ true)
 Attempted m r room ws vs Attempt.LeftUndone = (us : List Span) × Narrows m ws r us × (vs ≡ ws) × (room ≡ false)
 
--- From ws to vs by one round, begun with c narrowings: how the run from there ends, or goes on.
-abbrev pub Rounded : Meaning → List Rule → ℕ → ℕ → List Span → List Span → Round → Type 0
-Rounded m rules n c ws vs Round.Quiet = Run m rules n rules 1 false c ws (standing c vs)
-Rounded m rules n c ws vs (Round.Moved d) = (e : Ending) → Run m rules n rules 1 false d vs e → Run m rules n rules 1 false c ws e
-Rounded m rules n c ws vs Round.Spent = Run m rules n rules 1 false c ws (spent vs)
-Rounded m rules n c ws vs (Round.Barren k) = Run m rules n rules 1 false c ws (barren k)
+-- From ws to vs by one round, begun with c narrowings: the run from there ends with it, or goes on with d narrowings.
+abbrev pub Rounded : Meaning → List Rule → ℕ → ℕ → List Span → List Span → Result ℕ Settled → Type 0
+Rounded m rules n c ws vs (Ok d) = (e : Ending) → Run m rules n rules 1 false d vs e → Run m rules n rules 1 false c ws e
+Rounded m rules n c ws vs (Err (Settled.Standing d)) = Run m rules n rules 1 false c ws (standing d vs)
+Rounded m rules n c ws vs (Err (Settled.Spent k)) = Run m rules n rules 1 false c ws (spent vs) × (k ≡ n)
+Rounded m rules n c ws vs (Err (Settled.Barren k)) = Run m rules n rules 1 false c ws (barren k)
 
--- A round that moved counts more narrowings than before, and no more than n.
-abbrev pub Counted : ℕ → ℕ → Round → Type 0
-Counted n c Round.Quiet = Unit {0}
-Counted n c (Round.Moved d) = (c < d) × (d < n + 1)
-Counted n c Round.Spent = Unit {0}
-Counted n c (Round.Barren k) = Unit {0}
+-- A round after which the run goes on counts more narrowings than before, and no more than n.
+abbrev pub Counted : ℕ → ℕ → Result ℕ Settled → Type 0
+Counted n c (Ok d) = (c < d) × (d < n + 1)
+Counted n c (Err s) = Unit {0}
 
 -- From ws to vs by a run with the allowance n: what it ended with. A run that ends barren may leave any windows.
 abbrev pub Ended : Meaning → List Rule → ℕ → List Span → List Span → Settled → Type 0

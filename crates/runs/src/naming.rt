@@ -1,10 +1,11 @@
 //! Which rules name a line: those that may close something once its window moved.
-ghost use Rattle.std.specs.Prelude.{◌≡◌, ℕ, ◌-◌, ◌<◌, ◌≤◌, true, ◌||◌, length};
+ghost use Rattle.std.specs.Prelude.{◌≡◌, ℕ, ◌-◌, ◌<◌, true};
 ghost use Rattle.runs.specs.RuleSets.{has};
 ghost use Rattle.runs.specs.Wakes.{Indexed, Listed, rules_of};
 
+use crate::place::place_of;
 use crate::rule_set::RuleSet;
-use law::calls::Rule;
+use crate::rules::Rules;
 
 /// For each of 64 lines, in the order of their numbers, the set of the rules that name it.
 #[derive(Clone, Copy)]
@@ -20,21 +21,18 @@ impl Naming {
         ensures kept { (p j : ℕ) → has (rules_of self.old p) j ≡ true → has (rules_of self.new p) j ≡ true }
     {
         if k >= 1 && k <= 64 {
-            let place = k as usize - 1;
-            self.sets[place].insert(i);
+            self.sets[k as usize - 1].insert(i);
         }
     }
 
     /// The rules by the lines that they name.
-    pub(crate) fn of(rules: &[Rule]) -> Naming
-        requires { length rules.now ≤ 128 }
-        ensures { Indexed rules.now result }
+    pub(crate) fn of(rules: &Rules) -> Naming
+        ensures { Indexed rules.now.items.items result }
     {
         let mut naming = Naming {
             sets: [RuleSet::empty(); 64],
         };
-        for i in 0..rules.len() {
-            let rule = rules[i];
+        for (i, rule) in rules.items.iter().enumerate() {
             naming.add(rule.a, i);
             naming.add(rule.b, i);
             naming.add(rule.c, i);
@@ -42,14 +40,13 @@ impl Naming {
         naming
     }
 
-    /// Wakes the rules that name line `k`, counted from 1 (0 is read as 1); past the last line there is none.
-    pub(crate) fn wake(&self, awake: &mut RuleSet, k: u32)
-        ensures woken { k - 1 < 64 → (j : ℕ) → has awake.new j ≡ (has awake.old j || has (rules_of self.now (k - 1)) j) }
-        ensures past { 64 ≤ k - 1 → awake.new ≡ awake.old }
+    /// The rules that name line `k`, counted from 1 (0 is read as 1); past the last line there is none.
+    pub(crate) fn rules_of(&self, k: u32) -> RuleSet
+        ensures { result ≡ rules_of self.now (k - 1) }
     {
-        let place = k.saturating_sub(1) as usize;
-        if place < 64 {
-            awake.add_all(&self.sets[place]);
-        }
+        self.sets
+            .get(place_of(k))
+            .copied()
+            .unwrap_or(RuleSet::empty())
     }
 }

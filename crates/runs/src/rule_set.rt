@@ -1,22 +1,35 @@
 //! Sets of rules. A rule goes by its place among the rules, counted from 0.
 ghost use Rattle.std.specs.Prelude.{◌≡◌, ℕ, ◌<◌, ◌≤◌, true, false, ◌||◌, ◌≢◌};
-ghost use Rattle.runs.specs.RuleSets.{Next, has};
+ghost use Rattle.runs.specs.RuleSets.{has, none};
 
-/// How many words a set has: enough for 128 rules at 64 to a word.
-const WORDS: usize = 2;
-
-/// A set of rules: the one at place i is in it where bit i % 64 of word i / 64 is set.
-#[derive(Clone, Copy)]
+/// A set of up to 128 rules: the one at place i is in it where bit i is set.
+#[derive(Debug, Clone, Copy, PartialEq, Eq)]
 pub struct RuleSet {
-    words: [u64; WORDS],
+    bits: u128,
 }
 
 impl RuleSet {
     /// The set of no rule.
     pub(crate) fn empty() -> RuleSet
-        ensures { (j : ℕ) → has result j ≡ false }
+        ensures { result ≡ none }
     {
-        RuleSet { words: [0; WORDS] }
+        RuleSet { bits: 0 }
+    }
+
+    /// The set of all places.
+    pub(crate) fn full() -> RuleSet
+        ensures { (j : ℕ) → j < 128 → has result j ≡ true }
+    {
+        RuleSet { bits: u128::MAX }
+    }
+
+    /// The first place from `from` on whose rule is in the set; where there is none, one past all places.
+    pub(crate) fn next(&self, from: usize) -> usize
+        requires { from < 128 }
+        ensures passed { (j : ℕ) → from ≤ j → j < result → has self.now j ≡ false }
+        ensures here { result < 128 → has self.now result ≡ true }
+    {
+        from + (self.bits >> from).trailing_zeros() as usize
     }
 
     /// Takes in the rule at place `i`.
@@ -25,20 +38,7 @@ impl RuleSet {
         ensures here { has self.new i ≡ true }
         ensures others { (j : ℕ) → (j ≢ i) → has self.new j ≡ has self.old j }
     {
-        self.words[i / 64] |= 1 << (i % 64);
-    }
-
-    /// The first `count` rules.
-    pub(crate) fn first(count: usize) -> RuleSet
-        requires { count ≤ 128 }
-        ensures those { (j : ℕ) → j < count → has result j ≡ true }
-        ensures others { (j : ℕ) → count ≤ j → has result j ≡ false }
-    {
-        let mut set = RuleSet::empty();
-        for i in 0..count {
-            set.insert(i);
-        }
-        set
+        self.bits |= 1 << i;
     }
 
     /// Puts out the rule at place `i`.
@@ -47,32 +47,14 @@ impl RuleSet {
         ensures here { has self.new i ≡ false }
         ensures others { (j : ℕ) → (j ≢ i) → has self.new j ≡ has self.old j }
     {
-        self.words[i / 64] &= !(1 << (i % 64));
+        let bits = self.bits;
+        self.bits = bits & !(1 << i);
     }
 
     /// Takes in all rules of another set.
-    pub(crate) fn add_all(&mut self, other: &RuleSet)
-        ensures { (j : ℕ) → has self.new j ≡ (has self.old j || has other.now j) }
+    pub(crate) fn add_all(&mut self, other: RuleSet)
+        ensures { (j : ℕ) → has self.new j ≡ (has self.old j || has other j) }
     {
-        for w in 0..WORDS {
-            self.words[w] |= other.words[w];
-        }
-    }
-
-    /// The first rule of the set from place `from` on and before `end`, where there is one.
-    pub(crate) fn next(&self, from: usize, end: usize) -> Option<usize>
-        requires { end ≤ 128 }
-        ensures { Next self.now from end result }
-    {
-        let mut at = from;
-        while at < end {
-            let rest = self.words[at / 64] >> (at % 64);
-            if rest != 0 {
-                let found = at + rest.trailing_zeros() as usize;
-                return if found < end { Some(found) } else { None };
-            }
-            at = (at / 64 + 1) * 64;
-        }
-        None
+        self.bits |= other.bits;
     }
 }

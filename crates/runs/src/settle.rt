@@ -1,6 +1,6 @@
 //! Settling the windows of lines.
 ghost use Rattle.std.specs.Prelude.{map};
-ghost use Rattle.runs.specs.Rounds.{Finished, Ready, meaning};
+ghost use Rattle.runs.specs.Rounds.{Finished, Ready};
 ghost use Rattle.windows.specs.Windows.{span};
 
 use crate::lines::Lines;
@@ -12,16 +12,11 @@ use books::book::Book;
 /// Closes the windows of the lines by the rules, with an allowance of `n` narrowings. Where the run ends barren, the windows
 /// are brought back as they were.
 pub fn settle<B: Book>(book: &B, rules: &Rules, lines: &mut Lines, n: u32) -> Settled
-    ensures { Ready (meaning B.top B.arity B.counts (B.related book.now)) rules.now.items.items (map span lines.old.windows.items)
-        → Finished (meaning B.top B.arity B.counts (B.related book.now)) rules.now.items.items n (map span lines.old.windows.items) (map span lines.new.windows.items) result }
+    ensures { Ready (B.meaning book.now) rules.now.items.items (map span lines.old.windows.items)
+        → Finished (B.meaning book.now) rules.now.items.items n (map span lines.old.windows.items) (map span lines.new.windows.items) result }
 {
     let before = lines.snapshot();
-    let settled = run(
-        book,
-        rules.items.as_slice(),
-        lines.windows.as_mut_slice(),
-        n,
-    );
+    let settled = run(book, rules, lines, n);
     if let Settled::Barren(_) = settled {
         lines.bring_back(&before);
     }

@@ -1,51 +1,65 @@
-//! Windows put by the numbers of their lines, so that the rules of a line whose window moves wake.
-ghost use Rattle.std.specs.Prelude.{◌≡◌, ◌-◌, true, false, ◌⊎◌, [], ◌∷◌, map, take, ◌≢◌, slice_set};
+//! Which rules are awake, and windows put by the numbers of their lines, so that the rules of a line whose window moved wake.
+ghost use Rattle.std.specs.Prelude.{◌≡◌, ℕ, ◌-◌, ◌<◌, true, false, [], ◌∷◌, ◌⊎◌, map, take, ◌≢◌, slice_set};
 ghost use Rattle.books.specs.Narrowings.{read, spans};
 ghost use Rattle.law.specs.Sheets.{put};
-ghost use Rattle.runs.specs.Wakes.{Woken};
+ghost use Rattle.runs.specs.RuleSets.{has};
+ghost use Rattle.runs.specs.Wakes.{Indexed, Woken};
 ghost use Rattle.windows.specs.Windows.{span};
 
+use crate::lines::Lines;
 use crate::naming::Naming;
-use crate::place::{put_at, window_at};
 use crate::rule_set::RuleSet;
-use books::narrowing::Triple;
+use crate::rules::Rules;
+use boxes::triple::Triple;
 use law::calls::Rule;
 use windows::window::Window;
 
-/// Whether two windows have the same ends.
-pub(crate) fn same(v: Window, w: Window) -> bool
-    ensures { elim result [ true ↦ span v ≡ span w | false ↦ (span v ≢ span w) ] }
-{
-    v.lo() == w.lo() && v.hi() == w.hi()
+/// The rules that are to be tried again, with the rules by the lines that they name.
+#[derive(Clone, Copy)]
+pub struct Agenda {
+    naming: Naming,
+    pub(crate) awake: RuleSet,
 }
 
-/// Gives line `k` the window `w`, and wakes the rules that name the line if that is another window than it had.
-fn put_waking(naming: &Naming, lines: &mut [Window], awake: &mut RuleSet, k: u32, w: Window)
-    ensures put { map span lines.new ≡ slice_set (map span lines.old) (k - 1) (span w) }
-    ensures woken { Woken naming.now (map span lines.old) awake.old (map span lines.new) awake.new }
-{
-    if !same(window_at(lines, k), w) {
-        put_at(lines, k, w);
-        naming.wake(awake, k);
+impl Agenda {
+    /// All rules are awake.
+    pub(crate) fn of(rules: &Rules) -> Agenda
+        ensures listed { Indexed rules.now.items.items result.naming }
+        ensures awake { (j : ℕ) → j < 128 → has result.awake j ≡ true }
+    {
+        Agenda {
+            naming: Naming::of(rules),
+            awake: RuleSet::full(),
+        }
     }
-}
 
-/// Gives the lines that a rule of `count` lines names their windows, and wakes the rules of each line whose window moves.
-pub(crate) fn put_back(
-    naming: &Naming,
-    lines: &mut [Window],
-    awake: &mut RuleSet,
-    rule: Rule,
-    count: u32,
-    windows: Triple,
-)
-    requires { (count ≡ 2) ⊎ (count ≡ 3) }
-    ensures put { map span lines.new ≡ put (take count (rule.a ∷ rule.b ∷ rule.c ∷ [])) (read count (spans windows)) (map span lines.old) }
-    ensures woken { Woken naming.now (map span lines.old) awake.old (map span lines.new) awake.new }
-{
-    put_waking(naming, lines, awake, rule.a, windows.a);
-    put_waking(naming, lines, awake, rule.b, windows.b);
-    if count == 3 {
-        put_waking(naming, lines, awake, rule.c, windows.c);
+    /// Gives line `k` the window `w`, and wakes the rules that name the line if that is another window than it had.
+    fn put_waking(&mut self, lines: &mut Lines, k: u32, w: Window)
+        ensures put { map span lines.new.windows.items ≡ slice_set (map span lines.old.windows.items) (k - 1) (span w) }
+        ensures woken { Woken self.old (map span lines.old.windows.items) self.new (map span lines.new.windows.items) }
+    {
+        if lines.window(k) != w {
+            lines.put(k, w);
+            self.awake.add_all(self.naming.rules_of(k));
+        }
+    }
+
+    /// Gives the lines that a rule of `count` lines names their windows, and wakes the rules of each line whose window moves.
+    pub(crate) fn put_back(
+        &mut self,
+        lines: &mut Lines,
+        rule: Rule,
+        count: u32,
+        windows: Triple<Window>,
+    )
+        requires { (count ≡ 2) ⊎ (count ≡ 3) }
+        ensures put { map span lines.new.windows.items ≡ put (take count (rule.a ∷ rule.b ∷ rule.c ∷ [])) (read count (spans windows)) (map span lines.old.windows.items) }
+        ensures woken { Woken self.old (map span lines.old.windows.items) self.new (map span lines.new.windows.items) }
+    {
+        self.put_waking(lines, rule.a, windows.a);
+        self.put_waking(lines, rule.b, windows.b);
+        if count == 3 {
+            self.put_waking(lines, rule.c, windows.c);
+        }
     }
 }

@@ -9,6 +9,11 @@ use Rattle.sheet.specs.declared.ticket.Ticket.{Ticket}
 use Rattle.sheet.specs.declared.ticket.Returned.{Returned}
 use Rattle.runs.specs.Rounds.{answered}
 
+-- Of any call: what it gives, or its refusal.
+abbrev pub given : Result Answer Refusal → Answer
+given (Ok answer) = answer
+given (Err why) = Answer.Refused why
+
 -- Of a line or a rule.
 abbrev pub numbered : Result ℕ Refusal → Answer
 numbered (Ok k) = Answer.Numbered k

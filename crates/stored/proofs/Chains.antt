@@ -69,7 +69,7 @@ module _ {S : Type 0} (take : S → Item → Result S Refusal) (bytes : List ℕ
   -- Items that the chain leads by, and that are taken, are walked along.
   walked : (left at : ℕ) (s t : S) (items : List Item) → Leads bytes at items 0 → length items ≤ left → Takes take items s t → walk take bytes left at s ≡ Ok t
   walked left at s t [] here few q = walk_done take bytes left at s refl ∙ ap Ok q
-  walked zero at s t (i ∷ items) (on_to pos inside reads leads) few q = let w : ⊥ = omega arith in absurd w
+  walked zero at s t (i ∷ items) (on_to pos inside reads leads) few q = absurd (omega arith)
   walked (suc left) at s t (i ∷ items) (on_to pos inside reads leads) few q =
       let less : suc left - 1 ≡ left = omega arith in
       let fewer : length items ≤ left = omega arith in

@@ -12,13 +12,15 @@ use Rattle.law.specs.declared.calls.State.{State}
 use Rattle.law.specs.Histories.{History, entry}
 use Rattle.law.specs.Sheets.{Core, Model, named, named_by}
 use Rattle.law.specs.Sound.{Fits, IsLine, FitRule, SoundCore}
+use Rattle.law.specs.Steps.{Reached}
+use Rattle.law.proofs.Sheets.{all_sound}
 use Rattle.law.specs.Table.{checks, verdict, some_of, repeats, no_line, misnames}
 use Rattle.stored.specs.declared.fault.LoadFault.{LoadFault}
 use Rattle.stored.specs.declared.item.Item.{Item}
 use Rattle.stored.specs.Records.{records, record_at, byte, read, write, head, low, high, number, is_head, ruling}
 use Rattle.stored.specs.Loads.{Progress, progress, step, judged, on, walk, found, opened, bad_length, chain, start}
 use Rattle.stored.specs.Chains.{Takes}
-use Rattle.stored.specs.Stores.{line_item, items, next_index, chained, file, size, over, ComesBack}
+use Rattle.stored.specs.Stores.{line_item, items, items_of, next_index, chained, file, size, over, ComesBack}
 use Rattle.stored.proofs.Walks.{walk_done, walk_on, loads_chain}
 use Rattle.stored.proofs.Writes.{write_length, items_length}
 
@@ -193,7 +195,7 @@ named_few n arity r h (inr e) lines third =
 
 -- A kind that names lines names two or three.
 two_or_three : (n : ℕ) → ((n ≡ 0) ⊎ ((n ≡ 2) ⊎ (n ≡ 3))) → 1 ≤ n → ((n ≡ 2) ⊎ (n ≡ 3))
-two_or_three n (inl e) l = let w : ⊥ = omega arith in absurd w
+two_or_three n (inl e) l = absurd (omega arith)
 two_or_three n (inr q) l = q
 
 -- The kinds of a book are out of 2 to 5.
@@ -303,3 +305,13 @@ back_from m id drive mode c old out small within sound e =
     let text : List ℕ = file drive mode (items c) in
     let long : length text ≡ size c = file_length drive mode (items c) ∙ ap (λ (n : ℕ). 8 * (1 + n)) (items_length c.windows c.rules) in
     subst (ComesBack m id drive mode c) (sym (ap (take (size c)) e ∙ take_at text (drop (length text) old) (size c) long)) (comes_back m id drive mode c small within sound)
+
+-- So does the sheet that was written, whatever history led to it, by what its parts were read as.
+pub written_back :
+    (m : Meaning) (id number drive mode drive' mode' n : ℕ) (s : Model) (ws : List Span) (rs : List Rule) (old out : List ℕ) →
+    m.top ≤ 65535 → KindsWithin m → drive' ≡ drive → mode' ≡ mode → ws ≡ s.core.windows → rs ≡ s.core.rules →
+    out ≡ over (file drive' mode' (items_of ws rs)) old → n ≡ size s.core → (h : History) → Reached m id h s → ComesBack m number drive mode s.core (take n out)
+written_back m id number drive mode drive' mode' n s ws rs old out small within same-drive same-mode same-windows same-rules written long h reached =
+    subst (λ (k : ℕ). ComesBack m number drive mode s.core (take k out)) (sym long)
+    (back_from m number drive mode s.core old out small within (all_sound reached).core_sound
+    (written ∙ (λ i. over (file (same-drive i) (same-mode i) (items_of (same-windows i) (same-rules i))) old)))

@@ -1,18 +1,20 @@
 -- One step of the walk, and what the sheet's call makes of it. Assumes nothing.
 use Rattle.std.proofs.Common.{◌≡◌, ℕ, zero, suc, ◌-◌, ◌<◌, Bool, true, false, cond, ◌||◌, eqb, leb, List, [], ◌∷◌, length, Some, None, Ok, Err, Option, Result, sym, refl, ap, ◌∙◌, subst, ap₂, subst₂, arith}
 use Rattle.std.proofs.lemmas.Bool.{eq-eqb, ne_eqb}
+use Rattle.std.specs.Option.{is_some}
+use Rattle.std.specs.Result.{result_err}
 use Rattle.windows.specs.Meanings.{Meaning}
 use Rattle.law.specs.declared.calls.Answer.{Answer}
 use Rattle.law.specs.declared.calls.Refusal.{Refusal}
 use Rattle.law.specs.declared.calls.Rule.{Rule}
 use Rattle.law.specs.Histories.{History, entry}
-use Rattle.law.specs.Law.{Called}
+use Rattle.law.specs.Law.{Called, Law}
 use Rattle.law.specs.Sheets.{Model}
 use Rattle.law.specs.Steps.{Does, refused, does, Reached, set_up}
 use Rattle.law.proofs.Law.{lawful}
 use Rattle.law.proofs.Sheets.{all_sound}
 use Rattle.stored.specs.declared.fault.LoadFault.{LoadFault}
-use Rattle.stored.specs.declared.fault.LoadFault.TheVariants.{Length, Head, Chain, Record}
+use Rattle.stored.specs.declared.fault.LoadFault.TheVariants.{Length, Head, Chain}
 use Rattle.stored.specs.declared.item.Item.{Item}
 use Rattle.stored.specs.Records.{records, record_at, byte, is_head, read, call_of}
 use Rattle.stored.specs.Loads.{LedTo, Outcome, UnderLaw, Progress, progress, with_item, item_number, judged, step, on, on_read, walk, found, opened, Filled, bad_length, chain, loads}
@@ -30,31 +32,31 @@ closed_by :
     {S : Type 0} (z b q : Bool) (at : ℕ) (s : S) (take : Item → Result S Refusal) (go : S → Result S LoadFault) (o : Option Item) (f : LoadFault) →
     z ≡ false → b ≡ false → cond (b || q) (Err (Chain at)) (found at o) ≡ Err f →
     cond z (Ok s) (cond q (Err (Chain at)) (on_read at take go o)) ≡ Err f
-closed_by true b q at s take go o f p p' e = let z : ◌≡◌ {A = ℕ} 0 1 = cc in let w : ⊥ = omega arith in absurd w
-closed_by false true q at s take go o f p p' e = let z : ◌≡◌ {A = ℕ} 0 1 = cc in let w : ⊥ = omega arith in absurd w
-closed_by false false true at s take go o f p p' e = let x : Chain at ≡ f = cc in ap Err x
-closed_by false false false at s take go None f p p' e = let x : Record at ≡ f = cc in ap Err x
-closed_by false false false at s take go (Some i) f p p' e = let z : ◌≡◌ {A = ℕ} 0 1 = cc in let w : ⊥ = omega arith in absurd w
+closed_by true b q at s take go o f p p' e = cc
+closed_by false true q at s take go o f p p' e = cc
+closed_by false false true at s take go o f p p' e = cc
+closed_by false false false at s take go None f p p' e = cc
+closed_by false false false at s take go (Some i) f p p' e = cc
 
 -- One that is opened leads on by its item.
 opened_by :
     {S : Type 0} (z b q : Bool) (at : ℕ) (s : S) (take : Item → Result S Refusal) (go : S → Result S LoadFault) (o : Option Item) (i : Item) →
     z ≡ false → cond (b || q) (Err (Chain at)) (found at o) ≡ Ok i →
     cond z (Ok s) (cond q (Err (Chain at)) (on_read at take go o)) ≡ on at go (take i)
-opened_by true b q at s take go o i p e = let z : ◌≡◌ {A = ℕ} 0 1 = cc in let w : ⊥ = omega arith in absurd w
-opened_by false true q at s take go o i p e = let z : ◌≡◌ {A = ℕ} 0 1 = cc in let w : ⊥ = omega arith in absurd w
-opened_by false false true at s take go o i p e = let z : ◌≡◌ {A = ℕ} 0 1 = cc in let w : ⊥ = omega arith in absurd w
-opened_by false false false at s take go None i p e = let z : ◌≡◌ {A = ℕ} 0 1 = cc in let w : ⊥ = omega arith in absurd w
-opened_by false false false at s take go (Some j) i p e = let x : j ≡ i = cc in ap (λ (y : Item). on at go (take y)) x
+opened_by true b q at s take go o i p e = cc
+opened_by false true q at s take go o i p e = cc
+opened_by false false true at s take go o i p e = cc
+opened_by false false false at s take go None i p e = cc
+opened_by false false false at s take go (Some j) i p e = cc
 
 -- No record may be taken any more.
 none_left : {S : Type 0} (z q : Bool) (at : ℕ) (s : S) (o : Option Item) (f : LoadFault) → z ≡ false → cond (true || q) (Err (Chain at)) (found at o) ≡ Err f → cond z (Ok s) (Err (Chain at)) ≡ Err f
-none_left true q at s o f p e = let z : ◌≡◌ {A = ℕ} 0 1 = cc in let w : ⊥ = omega arith in absurd w
-none_left false q at s o f p e = let x : Chain at ≡ f = cc in ap Err x
+none_left true q at s o f p e = cc
+none_left false q at s o f p e = cc
 
 -- Some record may be taken.
 pub some_left : (bytes : List ℕ) (left at : ℕ) (i : Item) → opened bytes left at ≡ Ok i → 0 < left
-some_left bytes zero at i e = let z : ◌≡◌ {A = ℕ} 0 1 = cc in let w : ⊥ = omega arith in absurd w
+some_left bytes zero at i e = absurd (cc)
 some_left bytes (suc left) at i e = omega arith
 
 -- The walk where its record is not opened.
@@ -73,7 +75,7 @@ pub walk_on :
     (at ≡ 0 → ⊥) → opened bytes left at ≡ Ok i →
     walk take bytes left at s ≡ on at (λ t. walk take bytes (left - 1) (byte (record_at bytes at) 1) t) (take s i)
 unfolding walk
-walk_on take bytes zero at s i n e = let z : ◌≡◌ {A = ℕ} 0 1 = cc in let w : ⊥ = omega arith in absurd w
+walk_on take bytes zero at s i n e = cc
 walk_on take bytes (suc left) at s i n e =
     let less : left ≡ suc left - 1 = omega arith in
     opened_by (eqb at 0) (eqb (suc left) 0) (leb (records bytes) at) at s (take s) (λ t. walk take bytes left (byte (record_at bytes at) 1) t) (read (record_at bytes at)) i
@@ -92,7 +94,7 @@ pub step_taken :
     step m id (progress h s) i ≡ Ok (progress (entry (call_of i) (Answer.Numbered k) ∷ h) t)
 step_taken m id h s i t k reached called =
     elim (called.step (all_sound reached)) [
-      | refused why v p a ↦ let z : ◌≡◌ {A = ℕ} 0 1 = cc in let w : ⊥ = omega arith in absurd w
+      | refused why v p a ↦ cc
       | does v d ↦
           let both = item_does m id s i t (Answer.Numbered k) d in
           ap (judged (progress h s) i) v
@@ -110,7 +112,7 @@ step_refused m id h s i t why reached called =
       | does v d ↦
           let both = item_does m id s i t (Answer.Refused why) d in
           let e : Answer.Refused why ≡ Answer.Numbered (item_number s i) = both.1 in
-          let z : ◌≡◌ {A = ℕ} 0 1 = cc in let w : ⊥ = omega arith in absurd w
+          cc
     ]
 
 -- A filling that ended with a fault, and one that did not.
@@ -131,10 +133,15 @@ load_led m id s fault (Err f) out =
     let reached : Reached m id [] s = subst (Reached m id []) (sym out.1) set_up in
     record { history = []; reached = reached; law = lawful m id [] s reached }
 
--- The law holds of a sheet that was filled, with the calls taken as its history.
-pub law_filled : (m : Meaning) (id : ℕ) (s : Model) (u : Unit {0}) (o : Result Progress LoadFault) → Filled m id s (Ok u) o → UnderLaw m id s o
-law_filled m id s u (Ok p) filled = lawful m id p.history s filled.1
-law_filled m id s u (Err f) filled = absurd filled
+-- The law holds of the sheet t that a load leaves, with the calls taken as its history: where the filling has no fault it is the
+-- sheet that was filled.
+pub law_left :
+    (m : Meaning) (id : ℕ) (s t : Model) (r : Result (Unit {0}) LoadFault) (o : Result Progress LoadFault) → Filled m id s r o →
+    (is_some (result_err r) ≡ false → t ≡ s) → UnderLaw m id t o
+law_left m id s t (Ok u) (Ok p) filled same = subst (Law m id p.history) (sym (same refl)) (lawful m id p.history s filled.1)
+law_left m id s t (Ok u) (Err f) filled same = absurd filled
+law_left m id s t (Err e) (Ok p) filled same = absurd filled
+law_left m id s t (Err e) (Err f) filled same = tt
 
 -- The call of an item that is a rule.
 pub called_rule :

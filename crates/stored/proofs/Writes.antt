@@ -1,7 +1,6 @@
 -- How the file comes into the buffer, record by record. Assumes nothing.
-use Rattle.std.proofs.Common.{◌≡◌, ℕ, ◌+◌, ◌-◌, ◌*◌, ◌<◌, ◌≤◌, List, ◌++◌, map, length, get_or, take, drop, sym, refl, ap, ◌∙◌, ap₂, arith}
-use Rattle.std.proofs.lemmas.List.{append-nil, append_assoc, length-append, length-map, length-drop, length-take-le, take_at, drop_at, drop-drop, drop_all, drop_more, take-append-drop, get_or_append_left, get_or-append_right, get_or-map}
-use Rattle.std.proofs.lemmas.Slice.{drop-append-drop}
+use Rattle.std.proofs.Common.{◌≡◌, ℕ, ◌+◌, ◌-◌, ◌*◌, ◌<◌, ◌≤◌, List, ◌++◌, map, length, get_or, take, drop, sym, refl, ap, ◌∙◌, subst, ap₂, arith}
+use Rattle.std.proofs.lemmas.List.{append-nil, append_assoc, length-append, length-map, length-drop, take_at, drop_at, drop-drop, drop_all, drop_more, get_or_append_left, get_or-append_right, get_or-map}
 use Rattle.windows.specs.Spans.{Span, nowhere}
 use Rattle.windows.specs.Windows.{span}
 use Rattle.windows.specs.declared.window.Window.{Window}
@@ -20,6 +19,9 @@ pub items_length : (ws : List Span) (rs : List Rule) → length (items_of ws rs)
 items_length ws rs =
     length-append (map line_item ws) (map Item.Rule rs) ∙ ap₂ (λ (a b : ℕ). a + b) (length-map ws line_item) (length-map rs Item.Rule)
 
+pub items_count : (ws : List Window) (rs : List Rule) → length ws + length rs ≡ length (items_of (map span ws) rs)
+items_count ws rs = sym (items_length (map span ws) rs ∙ ap (λ (n : ℕ). n + length rs) (length-map ws span))
+
 -- The item of a line, and that of a rule.
 pub item_line :
     (ws : List Window) (rs : List Rule) (k : ℕ) (w : Window) → k < length ws → w ≡ get_or ws k w →
@@ -33,66 +35,67 @@ item_line ws rs k w l e =
     ∙ sym (get_or_append_left (map line_item (map span ws)) (map Item.Rule rs) nothing k l₂)
 
 pub item_rule :
-    (ws : List Window) (rs : List Rule) (k : ℕ) (d : Rule) → length ws ≤ k → k < length ws + length rs →
-    Item.Rule (get_or rs (k - length ws) d) ≡ get_or (items_of (map span ws) rs) k nothing
-item_rule ws rs k d l h =
+    (ws : List Window) (rs : List Rule) (k : ℕ) (d : Rule) → k < length rs →
+    Item.Rule (get_or rs k d) ≡ get_or (items_of (map span ws) rs) (length ws + k) nothing
+item_rule ws rs k d l =
     let n : length (map line_item (map span ws)) ≡ length ws = simp length-map in
-    let less : k - length ws < length rs = omega arith in
-    sym (get_or-append_right (map line_item (map span ws)) (map Item.Rule rs) (length ws) k nothing n l
-    ∙ get_or-map Item.Rule rs (k - length ws) d nothing less)
+    let after : length ws ≤ length ws + k = omega arith in
+    let back : length ws + k - length ws ≡ k = omega arith in
+    sym (get_or-append_right (map line_item (map span ws)) (map Item.Rule rs) (length ws) (length ws + k) nothing n after
+    ∙ ap (λ (i : ℕ). get_or (map Item.Rule rs) i nothing) back
+    ∙ get_or-map Item.Rule rs k d nothing l)
 
--- So far k items are written into the buffer, which held E with the head in it.
-pub record Put (E out : List ℕ) (xs : List Item) (k : ℕ) : Type 0 where
+-- So far k items are written into the buffer, after the head; the rest of it is as it was.
+pub record Put (drive mode : ℕ) (xs : List Item) (old out : List ℕ) (k : ℕ) : Type 0 where
   pub done : List ℕ
   pub size : length done ≡ 8 * (k + 1)
-  pub here : out ≡ done ++ drop (8 * (k + 1)) E
-  pub rest : done ++ chained (k + 1) (drop k xs) ≡ take 8 E ++ chained 1 xs
+  pub here : out ≡ done ++ drop (8 * (k + 1)) old
+  pub rest : done ++ chained (k + 1) (drop k xs) ≡ file drive mode xs
 
 -- None yet.
-pub put_none : (E : List ℕ) (xs : List Item) → 8 ≤ length E → Put E E xs 0
-put_none E xs h = record { done = take 8 E; size = length-take-le 8 E h; here = sym (take-append-drop 8 E); rest = refl }
+pub put_none :
+    (drive mode first count : ℕ) (xs : List Item) (old out : List ℕ) → count ≡ length xs → first ≡ next_index 1 count →
+    out ≡ put_at 0 (head drive mode first) old → Put drive mode xs old out 0
+unfolding file
+put_none drive mode first count xs old out n f e = record {
+  done = head drive mode first;
+  size = refl;
+  here = e;
+  rest = ap (λ (i : ℕ). head drive mode i ++ chained 1 xs) (f ∙ ap (next_index 1) n);
+}
 
 -- One more.
 pub put_next :
-    (E out : List ℕ) (xs : List Item) (k : ℕ) (w : List ℕ) → k < length xs →
-    w ≡ write (get_or xs k nothing) (next_index (k + 2) (length xs - (k + 1))) → Put E out xs k → Put E (put_at (8 * (k + 1)) w out) xs (k + 1)
+    (drive mode count : ℕ) (xs : List Item) (old out new : List ℕ) (k more : ℕ) (x : Item) → count ≡ length xs → k < length xs → more ≡ k + 1 →
+    x ≡ get_or xs k nothing → new ≡ put_at (8 * (k + 1)) (write x (next_index (k + 2) (count - (k + 1)))) out →
+    Put drive mode xs old out k → Put drive mode xs old new more
 unfolding chained
-put_next E out xs k w l e p =
+put_next drive mode count xs old out new k more x n l m f e p =
     let P : List ℕ = p.done in
     let a : ℕ = 8 * (k + 1) in
-    let x : Item = get_or xs k nothing in
-    let size-w : length w ≡ 8 = ap length e ∙ write_length x (next_index (k + 2) (length xs - (k + 1))) in
-    let before : take a out ≡ P = ap (take a) p.here ∙ take_at P (drop a E) a p.size in
+    let w : List ℕ = write x (next_index (k + 2) (count - (k + 1))) in
+    let size-w : length w ≡ 8 = write_length x (next_index (k + 2) (count - (k + 1))) in
+    let before : take a out ≡ P = ap (take a) p.here ∙ take_at P (drop a old) a p.size in
     let next-a : a + 8 ≡ 8 * (k + 1 + 1) = omega arith in
-    let after : drop (a + 8) out ≡ drop (8 * (k + 1 + 1)) E =
-    sym (drop-drop 8 a out) ∙ ap (λ (ys : List ℕ). drop 8 (drop a ys)) p.here ∙ ap (drop 8) (drop_at P (drop a E) a p.size) ∙ drop-drop 8 a E ∙ ap (λ (n : ℕ). drop n E) next-a in
-    let index : next_index (k + 2) (length xs - (k + 1)) ≡ next_index (k + 1 + 1) (length (drop (k + 1) xs)) =
-    ap₂ next_index (let q : k + 2 ≡ k + 1 + 1 = omega arith in q) (sym (length-drop (k + 1) xs)) in
-    record {
+    let after : drop (a + 8) out ≡ drop (8 * (k + 1 + 1)) old =
+    sym (drop-drop 8 a out) ∙ ap (λ (ys : List ℕ). drop 8 (drop a ys)) p.here ∙ ap (drop 8) (drop_at P (drop a old) a p.size) ∙ drop-drop 8 a old ∙ ap (λ (i : ℕ). drop i old) next-a in
+    let index : next_index (k + 2) (count - (k + 1)) ≡ next_index (k + 1 + 1) (length (drop (k + 1) xs)) =
+    ap₂ next_index (let q : k + 2 ≡ k + 1 + 1 = omega arith in q) (ap (λ (i : ℕ). i - (k + 1)) n ∙ sym (length-drop (k + 1) xs)) in
+    subst (Put drive mode xs old new) (sym m) record {
       done = P ++ w;
       size = length-append P w ∙ (let q : length P + length w ≡ 8 * (k + 1 + 1) = omega (arith, p.size) in q);
-      here = ap₂ (λ (u v : List ℕ). u ++ (w ++ v)) before after ∙ sym (append_assoc P w (drop (8 * (k + 1 + 1)) E));
+      here = e ∙ ap₂ (λ (u v : List ℕ). u ++ (w ++ v)) before after ∙ sym (append_assoc P w (drop (8 * (k + 1 + 1)) old));
       rest =
           append_assoc P w (chained (k + 1 + 1) (drop (k + 1) xs))
-          ∙ ap (λ (u : List ℕ). P ++ (u ++ chained (k + 1 + 1) (drop (k + 1) xs))) (e ∙ ap (write x) index)
+          ∙ ap₂ (λ (y : Item) (i : ℕ). P ++ (write y i ++ chained (k + 1 + 1) (drop (k + 1) xs))) f index
           ∙ sym (ap (λ (ys : List Item). P ++ chained (k + 1) ys) (drop_more xs k nothing l))
           ∙ p.rest;
     }
 
 -- All of them: the buffer holds the file, and what it held after it.
-pub put_all :
-    (drive mode : ℕ) (xs : List Item) (old out : List ℕ) (k : ℕ) → length xs ≤ k →
-    Put (head drive mode (next_index 1 (length xs)) ++ drop 8 old) out xs k → out ≡ over (file drive mode xs) old
-unfolding chained file
+pub put_all : (drive mode : ℕ) (xs : List Item) (old out : List ℕ) (k : ℕ) → length xs ≤ k → Put drive mode xs old out k → out ≡ over (file drive mode xs) old
+unfolding chained
 put_all drive mode xs old out k l p =
-    let H : List ℕ = head drive mode (next_index 1 (length xs)) in
-    let whole : p.done ≡ H ++ chained 1 xs =
+    let whole : p.done ≡ file drive mode xs =
     sym (append-nil p.done) ∙ sym (ap (λ (ys : List Item). p.done ++ chained (k + 1) ys) (drop_all k xs l)) ∙ p.rest in
-    let long : 8 ≤ 8 * (k + 1) = omega arith in
-    p.here
-    ∙ ap (λ (u : List ℕ). p.done ++ u) (drop-append-drop 8 old H (8 * (k + 1)) long refl ∙ ap (λ (n : ℕ). drop n old) (sym p.size))
-    ∙ ap (λ (u : List ℕ). u ++ drop (length u) old) whole
-
--- Eight bytes written into the middle.
-pub put_mid : (at : ℕ) (out : List ℕ) → drop (at + 8 - at) (drop at out) ≡ drop (at + 8) out
-put_mid at out = drop-drop (at + 8 - at) at out ∙ ap (λ (n : ℕ). drop n out) (let q : at + (at + 8 - at) ≡ at + 8 = omega arith in q)
+    p.here ∙ ap (λ (n : ℕ). p.done ++ drop n old) (sym p.size) ∙ ap (λ (u : List ℕ). u ++ drop (length u) old) whole

@@ -111,10 +111,6 @@ abbrev pub told : Result ℕ Placed → Answer
 told (Ok k) = Answer.Numbered k
 told (Err p) = Answer.Refused p.why
 
-abbrev pub placed_at : ℕ → Result ℕ Placed → Type 0
-placed_at at (Ok k) = Unit {0}
-placed_at at (Err p) = p.at ≡ at
-
 -- The sheet s is what a filling with this outcome leads to.
 abbrev pub Filled : Meaning → ℕ → Model → Result (Unit {0}) LoadFault → Result Progress LoadFault → Type 0
 Filled m id s (Ok u) (Ok p) = (s ≡ p.sheet) × Reached m id p.history s

@@ -14,6 +14,8 @@ use Rattle.law.specs.Sheets.{Core, Model}
 use Rattle.law.specs.Steps.{Reached}
 use Rattle.law.specs.Table.{is_barren}
 use Rattle.stored.specs.declared.fault.LoadFault.{LoadFault}
+use Rattle.stored.specs.declared.fault.ReloadFault.{ReloadFault}
+use Rattle.stored.specs.declared.fault.ReloadFault.TheVariants.{OutOfMemory, Store}
 use Rattle.stored.specs.declared.fault.StoreFault.{StoreFault}
 use Rattle.stored.specs.declared.fault.StoreFault.TheVariants.{TryOpen, IsBarren, Short}
 use Rattle.stored.specs.declared.item.Item.{Item}
@@ -101,7 +103,8 @@ nothing = Item.Line 0 0
 abbrev pub SameAgain : Meaning → ℕ → Model → Model → Option LoadFault → Type 0
 SameAgain m id s t fault = (h : History) → Reached m id h s → (fault ≡ None) × (t ≡ record { core = unsettled s.core; saved = [] })
 
--- Why a store was refused, if it was.
-abbrev pub fault_of : {X : Type 0} → Result X StoreFault → Option StoreFault
-fault_of (Ok x) = None
-fault_of (Err why) = Some why
+-- Why the store of a reload was refused, if it was: want of memory comes only where it was not.
+abbrev pub store_fault_of : {X : Type 0} → Result X ReloadFault → Option StoreFault
+store_fault_of (Ok x) = None
+store_fault_of (Err (Store why)) = Some why
+store_fault_of (Err OutOfMemory) = None

@@ -1,72 +1,62 @@
 //! Records of a stored sheet, and what they tell.
-ghost use Rattle.std.specs.Prelude.{◌≡◌, ◌<◌, length};
-ghost use Rattle.stored.specs.Records.{is_head, number, read, record_at, records};
+ghost use Rattle.std.specs.Prelude.{◌≡◌, ◌<◌};
+ghost use Rattle.stored.specs.Records.{is_head, read, record_at, records};
+ghost use Rattle.stored.specs.Stores.{line_item};
+ghost use Rattle.windows.specs.Windows.{span};
 
 use books::book::Book;
 use law::calls::Rule;
+use windows::window::Window;
 
 /// What a record tells.
-#[derive(Clone, Copy)]
+#[derive(Clone, Copy, PartialEq, Eq, Debug)]
 pub enum Item {
     Line { lo: u32, hi: u32 },
     Rule(Rule),
 }
 
-/// The record of an index.
-pub(crate) fn record_at(bytes: &[u8], i: u8) -> &[u8]
-    requires { i < records bytes.now }
-    ensures record { result.now ≡ record_at bytes.now i }
-    ensures size { length result.now ≡ 8 }
-{
-    let from = 8 * (i as usize);
-    &bytes[from..from + 8]
+/// A line, by its window as it is now.
+impl From<Window> for Item {
+    ghost from_gives = { λ window item. item ≡ line_item (span window) };
+
+    fn from(window: Window) -> Item {
+        Item::Line {
+            lo: window.lo(),
+            hi: window.hi(),
+        }
+    }
 }
 
-/// The number of two bytes, low byte first.
-fn two_bytes(low: u8, high: u8) -> u32
-    ensures { result ≡ number low high }
+/// The record of an index.
+pub(crate) fn record_at(bytes: &[u8], i: u8) -> &[u8; 8]
+    requires { i < records bytes.now }
+    ensures { result.now ≡ record_at bytes.now i }
 {
-    u32::from(low) + 256 * u32::from(high)
+    &bytes.as_chunks::<8>().0[usize::from(i)]
 }
 
 /// Whether a record is a head for this book.
-pub(crate) fn head_fits<B: Book>(book: &B, head: &[u8]) -> bool
-    requires { length head.now ≡ 8 }
-    ensures { result ≡ is_head B.drive (B.mode book.now) head.now }
+pub(crate) fn head_fits<B: Book>(book: &B, head: &[u8; 8]) -> bool
+    ensures { result ≡ is_head B.DRIVE (B.mode book.now) head.now }
 {
-    (head[0] == 1)
-        & ((head[2] == B::drive_number())
-            & ((head[3] == book.mode_number())
-                & ((head[4] == 0) & ((head[5] == 0) & ((head[6] == 0) & (head[7] == 0))))))
+    matches!(*head, [1, _, drive, mode, 0, 0, 0, 0] if drive == B::DRIVE && mode == book.mode_number())
 }
 
 /// What a record tells; `None` where its kind is not 1 to 5, or an unused byte is not 0.
-pub(crate) fn read_item(bytes: &[u8]) -> Option<Item>
-    requires { length bytes.now ≡ 8 }
+pub(crate) fn read_item(bytes: &[u8; 8]) -> Option<Item>
     ensures { result ≡ read bytes.now }
 {
-    let kind = bytes[0];
-    if kind == 1 {
-        if (bytes[6] == 0) & (bytes[7] == 0) {
-            Some(Item::Line {
-                lo: two_bytes(bytes[2], bytes[3]),
-                hi: two_bytes(bytes[4], bytes[5]),
-            })
-        } else {
-            None
-        }
-    } else if (2 <= kind) & (kind <= 5) {
-        if (bytes[5] == 0) & ((bytes[6] == 0) & (bytes[7] == 0)) {
-            Some(Item::Rule(Rule {
-                kind: u32::from(kind),
-                a: u32::from(bytes[2]),
-                b: u32::from(bytes[3]),
-                c: u32::from(bytes[4]),
-            }))
-        } else {
-            None
-        }
-    } else {
-        None
+    match *bytes {
+        [1, _, a, b, c, d, 0, 0] => Some(Item::Line {
+            lo: u32::from(u16::from_le_bytes([a, b])),
+            hi: u32::from(u16::from_le_bytes([c, d])),
+        }),
+        [kind @ 2..=5, _, a, b, c, 0, 0, 0] => Some(Item::Rule(Rule {
+            kind: u32::from(kind),
+            a: u32::from(a),
+            b: u32::from(b),
+            c: u32::from(c),
+        })),
+        _ => None,
     }
 }

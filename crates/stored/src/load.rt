@@ -1,11 +1,10 @@
 //! Load: a sheet set up from a number, a book and bytes.
-ghost use Rattle.std.specs.Prelude.{◌≡◌, ◌<◌, ◌≤◌, length, IfOk};
+ghost use Rattle.std.specs.Prelude.{◌≡◌, ◌<◌, ◌≤◌, length, IfErr, IfOk};
 ghost use Rattle.law.specs.Law.{Called};
 ghost use Rattle.law.specs.Sheets.{empty};
 ghost use Rattle.sheet.specs.Answers.{numbered};
-ghost use Rattle.runs.specs.Rounds.{meaning};
 ghost use Rattle.tables.specs.Views.{model};
-ghost use Rattle.stored.specs.Loads.{Filled, Outcome, UnderLaw, bad_length, chain, loads, opened, placed_at, told};
+ghost use Rattle.stored.specs.Loads.{Filled, Outcome, UnderLaw, bad_length, chain, loads, opened, told};
 ghost use Rattle.stored.specs.Records.{byte, call_of, record_at, records};
 
 use crate::fault::{LoadFault, Placed};
@@ -17,6 +16,7 @@ use std::alloc::{AllocError, Global};
 use tables::room::Room;
 
 /// What a load leaves: without a fault the sheet that was stored; with one, a fresh sheet.
+// No `Result`: a refused load leaves a sheet too, beside its fault.
 #[derive(Drop)]
 pub struct Loaded<B: Book> {
     pub sheet: Sheet<B>,
@@ -27,25 +27,22 @@ pub struct Loaded<B: Book> {
 pub fn badly_long(len: usize) -> bool
     ensures { result ≡ bad_length len }
 {
-    (len == 0) | ((2048 < len) | (len % 8 != 0))
+    len == 0 || 2048 < len || len % 8 != 0
 }
 
 /// What the record at an index of the chain tells, where `left` more records may be taken.
 fn open_record(bytes: &[u8], left: usize, at: u8) -> Result<Item, LoadFault>
     ensures { result ≡ opened bytes.now left at }
 {
-    if (left == 0) | (bytes.len() / 8 <= at as usize) {
+    if left == 0 || bytes.len() / 8 <= usize::from(at) {
         return Err(LoadFault::Chain(at));
     }
-    match read_item(record_at(bytes, at)) {
-        Some(item) => Ok(item),
-        None => Err(LoadFault::Record(at)),
-    }
+    read_item(record_at(bytes, at)).ok_or(LoadFault::Record(at))
 }
 
 /// Adds a line or a rule.
 fn take_item<B: Book>(sheet: &mut Sheet<B>, item: Item) -> Result<u32, Refusal>
-    ensures called { Called (meaning B.top B.arity B.counts (B.related sheet.old.book)) sheet.old.number (model sheet.old.tables) (call_of item) (model sheet.new.tables) (numbered result) }
+    ensures called { Called (B.meaning sheet.old.book) sheet.old.number (model sheet.old.tables) (call_of item) (model sheet.new.tables) (numbered result) }
     ensures number { sheet.new.number ≡ sheet.old.number }
     ensures book { sheet.new.book ≡ sheet.old.book }
 {
@@ -57,26 +54,24 @@ fn take_item<B: Book>(sheet: &mut Sheet<B>, item: Item) -> Result<u32, Refusal>
 
 /// The same, for the record at an index, which goes with a refusal.
 fn take_at<B: Book>(sheet: &mut Sheet<B>, item: Item, at: u8) -> Result<u32, Placed>
-    ensures called { Called (meaning B.top B.arity B.counts (B.related sheet.old.book)) sheet.old.number (model sheet.old.tables) (call_of item) (model sheet.new.tables) (told result) }
-    ensures placed { placed_at at result }
+    ensures called { Called (B.meaning sheet.old.book) sheet.old.number (model sheet.old.tables) (call_of item) (model sheet.new.tables) (told result) }
+    ensures placed { IfErr result (λ p. p.at ≡ at) }
     ensures number { sheet.new.number ≡ sheet.old.number }
     ensures book { sheet.new.book ≡ sheet.old.book }
 {
-    match take_item(sheet, item) {
-        Ok(number) => Ok(number),
-        Err(why) => Err(Placed { why, at }),
-    }
+    take_item(sheet, item).map_err(|why| Placed { why, at })
 }
 
 /// Takes the records of the chain, from its first index on.
 fn take_chain<B: Book>(sheet: &mut Sheet<B>, bytes: &[u8]) -> Result<(), LoadFault>
     requires fresh { model sheet.old.tables ≡ empty }
     requires head { 0 < records bytes.now }
-    ensures filled { Filled (meaning B.top B.arity B.counts (B.related sheet.old.book)) sheet.old.number (model sheet.new.tables) result (chain (meaning B.top B.arity B.counts (B.related sheet.old.book)) sheet.old.number bytes.now) }
+    ensures filled { Filled (B.meaning sheet.old.book) sheet.old.number (model sheet.new.tables) result (chain (B.meaning sheet.old.book) sheet.old.number bytes.now) }
     ensures number { sheet.new.number ≡ sheet.old.number }
     ensures book { sheet.new.book ≡ sheet.old.book }
 {
     let mut left = bytes.len() / 8 - 1;
+    // By hand: there is no list to go over, the next index stands in the record.
     let mut at = record_at(bytes, 0)[1];
     while at != 0 {
         let item = open_record(bytes, left, at)?;
@@ -90,7 +85,7 @@ fn take_chain<B: Book>(sheet: &mut Sheet<B>, bytes: &[u8]) -> Result<(), LoadFau
 /// Fills an empty sheet from the bytes: their length, their head, then the chain.
 fn fill<B: Book>(sheet: &mut Sheet<B>, bytes: &[u8]) -> Result<(), LoadFault>
     requires { model sheet.old.tables ≡ empty }
-    ensures filled { Filled (meaning B.top B.arity B.counts (B.related sheet.old.book)) sheet.old.number (model sheet.new.tables) result (loads (meaning B.top B.arity B.counts (B.related sheet.old.book)) sheet.old.number B.drive (B.mode sheet.old.book) bytes.now) }
+    ensures filled { Filled (B.meaning sheet.old.book) sheet.old.number (model sheet.new.tables) result (loads (B.meaning sheet.old.book) sheet.old.number B.DRIVE (B.mode sheet.old.book) bytes.now) }
     ensures number { sheet.new.number ≡ sheet.old.number }
     ensures book { sheet.new.book ≡ sheet.old.book }
 {
@@ -111,7 +106,7 @@ pub fn load<B: Book + Copy + Drop>(
     book: B,
     bytes: &[u8],
 ) -> Result<Loaded<B>, AllocError>
-    ensures loaded { IfOk result (λ l. Outcome (meaning B.top B.arity B.counts (B.related book)) number (model l.sheet.tables) l.fault (loads (meaning B.top B.arity B.counts (B.related book)) number B.drive (B.mode book) bytes.now)) }
+    ensures loaded { IfOk result (λ l. Outcome (B.meaning book) number (model l.sheet.tables) l.fault (loads (B.meaning book) number B.DRIVE (B.mode book) bytes.now)) }
     ensures number { IfOk result (λ l. l.sheet.number ≡ number) }
     ensures book { IfOk result (λ l. l.sheet.book ≡ book) }
 {
@@ -121,20 +116,16 @@ pub fn load<B: Book + Copy + Drop>(
 
 /// The same in room that was reserved for the sheet. The law holds of the sheet, with the lines and rules taken as its calls.
 pub fn load_in<B: Book>(room: Room, number: u32, book: B, bytes: &[u8]) -> Loaded<B>
-    ensures loaded { Outcome (meaning B.top B.arity B.counts (B.related book)) number (model result.sheet.tables) result.fault (loads (meaning B.top B.arity B.counts (B.related book)) number B.drive (B.mode book) bytes.now) }
-    ensures law { UnderLaw (meaning B.top B.arity B.counts (B.related book)) number (model result.sheet.tables) (loads (meaning B.top B.arity B.counts (B.related book)) number B.drive (B.mode book) bytes.now) }
+    ensures loaded { Outcome (B.meaning book) number (model result.sheet.tables) result.fault (loads (B.meaning book) number B.DRIVE (B.mode book) bytes.now) }
+    ensures law { UnderLaw (B.meaning book) number (model result.sheet.tables) (loads (B.meaning book) number B.DRIVE (B.mode book) bytes.now) }
     ensures number { result.sheet.number ≡ number }
     ensures book { result.sheet.book ≡ book }
 {
     let mut sheet = Sheet::in_room(room, number, book);
-    match fill(&mut sheet, bytes) {
-        Ok(()) => Loaded { sheet, fault: None },
-        Err(fault) => {
-            let (room, book) = sheet.into_parts();
-            Loaded {
-                sheet: Sheet::in_room(room, number, book),
-                fault: Some(fault),
-            }
-        }
+    let fault = fill(&mut sheet, bytes).err();
+    if fault.is_some() {
+        let (room, book) = sheet.into_parts();
+        sheet = Sheet::in_room(room, number, book);
     }
+    Loaded { sheet, fault }
 }

@@ -1,72 +1,48 @@
 //! The round trip: a sheet stored and loaded back.
 ghost use Rattle.std.specs.Prelude.{◌≡◌, length, IfOk};
+ghost use Rattle.std.specs.Result.{result_err};
 ghost use Rattle.law.specs.Histories.{History};
 ghost use Rattle.law.specs.Steps.{Reached};
-ghost use Rattle.runs.specs.Rounds.{meaning};
 ghost use Rattle.stored.specs.Loads.{LedTo};
-ghost use Rattle.stored.specs.Stores.{ComesBack, SameAgain, buffer, fault_of, stores};
+ghost use Rattle.stored.specs.Stores.{ComesBack, SameAgain, buffer, store_fault_of, stores};
 ghost use Rattle.tables.specs.Views.{model};
 
-use crate::fault::StoreFault;
-use crate::load::{Loaded, load, load_in};
+use crate::fault::{ReloadFault, StoreFault};
+use crate::load::{Loaded, load_in};
 use crate::store::store;
 use books::book::Book;
 use sheet::sheet::Sheet;
-use std::alloc::{AllocError, Global};
+use std::alloc::Global;
 use tables::room::Room;
 
-/// Loads what was stored of a sheet, with its number and its book.
-fn load_again<B: Book + Copy + Drop>(
-    heap: Global,
-    sheet: &Sheet<B>,
-    bytes: &[u8],
-) -> Result<Loaded<B>, AllocError>
-    requires { (h : History) → Reached (meaning B.top B.arity B.counts (B.related sheet.now.book)) sheet.now.number h (model sheet.now.tables)
-        → ComesBack (meaning B.top B.arity B.counts (B.related sheet.now.book)) sheet.now.number B.drive (B.mode sheet.now.book) (model sheet.now.tables).core bytes.now }
-    ensures same { IfOk result (λ l. SameAgain (meaning B.top B.arity B.counts (B.related sheet.now.book)) sheet.now.number (model sheet.now.tables) (model l.sheet.tables) l.fault) }
-    ensures number { IfOk result (λ l. l.sheet.number ≡ sheet.now.number) }
-    ensures book { IfOk result (λ l. l.sheet.book ≡ sheet.now.book) }
-{
-    load(heap, sheet.number(), *sheet.book(), bytes)
-}
-
-/// Stores a sheet into the buffer, and loads it back with the same number and book: the same lines, with their windows as they
-/// are now, and the same rules, unsettled, whatever calls led to the sheet.
-pub fn reload<B: Book + Copy + Drop>(
-    heap: Global,
-    sheet: &Sheet<B>,
-    out: &mut [u8],
-) -> Result<Result<Loaded<B>, StoreFault>, AllocError>
-    ensures same { IfOk result (λ x. IfOk x (λ l. SameAgain (meaning B.top B.arity B.counts (B.related sheet.now.book)) sheet.now.number (model sheet.now.tables) (model l.sheet.tables) l.fault)) }
-    ensures number { IfOk result (λ x. IfOk x (λ l. l.sheet.number ≡ sheet.now.number)) }
-    ensures book { IfOk result (λ x. IfOk x (λ l. l.sheet.book ≡ sheet.now.book)) }
-    ensures fault { IfOk result (λ x. fault_of x ≡ fault_of (stores (model sheet.now.tables) (length out.old))) }
-    ensures buffer { out.new ≡ buffer B.drive (B.mode sheet.now.book) (model sheet.now.tables) out.old (stores (model sheet.now.tables) (length out.old)) }
-{
-    match store(sheet, out) {
-        Err(why) => Ok(Err(why)),
-        Ok(n) => {
-            let loaded = load_again(heap, sheet, &out[..n])?;
-            Ok(Ok(loaded))
-        }
-    }
-}
-
 /// Loads what was stored of a sheet, with this number and the sheet's book, in this room.
-fn load_again_in<B: Book + Copy>(
-    room: Room,
-    number: u32,
-    sheet: &Sheet<B>,
-    bytes: &[u8],
-) -> Loaded<B>
-    requires { (h : History) → Reached (meaning B.top B.arity B.counts (B.related sheet.now.book)) sheet.now.number h (model sheet.now.tables)
-        → ComesBack (meaning B.top B.arity B.counts (B.related sheet.now.book)) number B.drive (B.mode sheet.now.book) (model sheet.now.tables).core bytes.now }
-    ensures same { SameAgain (meaning B.top B.arity B.counts (B.related sheet.now.book)) sheet.now.number (model sheet.now.tables) (model result.sheet.tables) result.fault }
-    ensures led { LedTo (meaning B.top B.arity B.counts (B.related sheet.now.book)) number (model result.sheet.tables) }
+fn load_again<B: Book + Copy>(room: Room, number: u32, sheet: &Sheet<B>, bytes: &[u8]) -> Loaded<B>
+    requires { (h : History) → Reached (B.meaning sheet.now.book) sheet.now.number h (model sheet.now.tables)
+        → ComesBack (B.meaning sheet.now.book) number B.DRIVE (B.mode sheet.now.book) (model sheet.now.tables).core bytes.now }
+    ensures same { SameAgain (B.meaning sheet.now.book) sheet.now.number (model sheet.now.tables) (model result.sheet.tables) result.fault }
+    ensures led { LedTo (B.meaning sheet.now.book) number (model result.sheet.tables) }
     ensures number { result.sheet.number ≡ number }
     ensures book { result.sheet.book ≡ sheet.now.book }
 {
     load_in(room, number, *sheet.book(), bytes)
+}
+
+/// Stores a sheet into the buffer, and loads it back with the same number and book: the same lines, with their windows as they
+/// are now, and the same rules, unsettled, whatever calls led to the sheet.
+pub fn reload<B: Book + Copy>(
+    heap: Global,
+    sheet: &Sheet<B>,
+    out: &mut [u8],
+) -> Result<Loaded<B>, ReloadFault>
+    ensures same { IfOk result (λ l. SameAgain (B.meaning sheet.now.book) sheet.now.number (model sheet.now.tables) (model l.sheet.tables) l.fault) }
+    ensures number { IfOk result (λ l. l.sheet.number ≡ sheet.now.number) }
+    ensures book { IfOk result (λ l. l.sheet.book ≡ sheet.now.book) }
+    ensures fault { store_fault_of result ≡ result_err (stores (model sheet.now.tables) (length out.old)) }
+    ensures buffer { out.new ≡ buffer B.DRIVE (B.mode sheet.now.book) (model sheet.now.tables) out.old (stores (model sheet.now.tables) (length out.old)) }
+{
+    let n = store(sheet, out)?;
+    let room = Room::reserve(heap)?;
+    Ok(load_again(room, sheet.number(), sheet, &out[..n]))
 }
 
 /// Stores a sheet into the buffer, and loads it back in this room, with this number and the same book: the same lines, with
@@ -78,13 +54,13 @@ pub fn reload_in<B: Book + Copy>(
     sheet: &Sheet<B>,
     out: &mut [u8],
 ) -> Result<Loaded<B>, StoreFault>
-    ensures same { IfOk result (λ l. SameAgain (meaning B.top B.arity B.counts (B.related sheet.now.book)) sheet.now.number (model sheet.now.tables) (model l.sheet.tables) l.fault) }
-    ensures led { IfOk result (λ l. LedTo (meaning B.top B.arity B.counts (B.related sheet.now.book)) number (model l.sheet.tables)) }
+    ensures same { IfOk result (λ l. SameAgain (B.meaning sheet.now.book) sheet.now.number (model sheet.now.tables) (model l.sheet.tables) l.fault) }
+    ensures led { IfOk result (λ l. LedTo (B.meaning sheet.now.book) number (model l.sheet.tables)) }
     ensures number { IfOk result (λ l. l.sheet.number ≡ number) }
     ensures book { IfOk result (λ l. l.sheet.book ≡ sheet.now.book) }
-    ensures fault { fault_of result ≡ fault_of (stores (model sheet.now.tables) (length out.old)) }
-    ensures buffer { out.new ≡ buffer B.drive (B.mode sheet.now.book) (model sheet.now.tables) out.old (stores (model sheet.now.tables) (length out.old)) }
+    ensures fault { result_err result ≡ result_err (stores (model sheet.now.tables) (length out.old)) }
+    ensures buffer { out.new ≡ buffer B.DRIVE (B.mode sheet.now.book) (model sheet.now.tables) out.old (stores (model sheet.now.tables) (length out.old)) }
 {
     let n = store(sheet, out)?;
-    Ok(load_again_in(room, number, sheet, &out[..n]))
+    Ok(load_again(room, number, sheet, &out[..n]))
 }

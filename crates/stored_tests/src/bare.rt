@@ -1,13 +1,14 @@
 //! A book without any kind of rule, for the refusals that no file of a drive's own book can meet.
 ghost use Rattle.std.proofs.Common.{inl, rules};
-ghost use Rattle.std.specs.Prelude.{refl};
+ghost use Rattle.std.specs.Prelude.{false, [], ◌∷◌, refl};
 
 use books::book::Book;
-use books::narrowing::Narrowing;
+use books::narrowing::{Narrowing, Unfit};
+use boxes::triple::Triple;
 use windows::window::Window;
 
 /// Drive 9, mode 3, codes up to 100, no kinds.
-#[derive(Clone, Copy)]
+#[derive(Clone, Copy, Debug, PartialEq, Eq, Hash)]
 pub struct BareBook;
 
 impl Book for BareBook {
@@ -17,29 +18,23 @@ impl Book for BareBook {
 
     const KINDS: [bool; 8] = [false; 8];
 
-    ghost top = { 100 };
+    ghost TOP = { 100 };
 
-    ghost drive = { 9 };
+    ghost DRIVE = { 9 };
 
-    ghost arity = { λ _. 0 };
-
-    ghost counts = { λ _. inl refl };
+    ghost KINDS = { false ∷ false ∷ false ∷ false ∷ false ∷ false ∷ false ∷ false ∷ [] };
 
     ghost mode = { λ _. 3 };
 
-    ghost related = { λ _ _ _. ⊥ };
+    ghost meaning = { λ _. record { top = 100; arity = λ _. 0; related = λ _ _. ⊥; counts = λ _. inl refl } };
 
     ghost small = { Prim.search rules };
 
+    ghost top = { λ _. refl };
+
+    ghost known = { Prim.search rules };
+
     ghost within = { Prim.search rules };
-
-    fn top_code() -> u32 {
-        Self::TOP
-    }
-
-    fn drive_number() -> u8 {
-        Self::DRIVE
-    }
 
     fn lines(_kind: u32) -> u32 {
         0
@@ -49,7 +44,7 @@ impl Book for BareBook {
         3
     }
 
-    fn narrow(&self, _kind: u32, _a: Window, _b: Window, _c: Window) -> Narrowing {
-        Narrowing::Unfit
+    fn narrow(&self, _kind: u32, _windows: Triple<Window>) -> Narrowing {
+        Err(Unfit)
     }
 }

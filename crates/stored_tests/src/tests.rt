@@ -27,20 +27,11 @@ fn rule(next: u8) -> [u8; 8] {
     [5, next, 1, 2, 0, 0, 0, 0]
 }
 
-/// The bytes of the rows.
-fn file(heap: Global, rows: &[[u8; 8]]) -> Result<Vec<u8>, Fail> {
-    let mut bytes = Vec::new(heap);
-    for row in rows {
-        bytes.extend_from_slice(row)?;
-    }
-    Ok(bytes)
-}
-
 /// The bytes are refused by this number at this index, and a fresh sheet is left.
 fn refused(rt: &impl Abort, heap: Global, bytes: &[u8], number: u8, at: u8) -> Result<(), Fail> {
     let loaded = load(heap, 7, CounterBook, bytes)?;
     let fault = loaded.fault.ok_or("no fault")?;
-    assert_eq!(rt; fault.number(), number);
+    assert_eq!(rt; u8::from(fault), number);
     assert_eq!(rt; fault.at(), at);
     assert_eq!(rt; loaded.sheet.number(), 7);
     assert_eq!(rt; loaded.sheet.lines(), 0);
@@ -82,46 +73,22 @@ fn heads(rt: HostRuntime) -> Result<(), Fail> {
 #[test]
 fn chains(rt: HostRuntime) -> Result<(), Fail> {
     let heap = rt.alloc();
-    refused(
-        &rt,
-        heap,
-        file(heap, &[head(9), line(0)])?.as_slice(),
-        12,
-        9,
-    )?;
-    refused(
-        &rt,
-        heap,
-        file(heap, &[head(1), line(2)])?.as_slice(),
-        12,
-        2,
-    )?;
-    refused(
-        &rt,
-        heap,
-        file(heap, &[head(1), line(1)])?.as_slice(),
-        12,
-        1,
-    )?;
-    refused(
-        &rt,
-        heap,
-        file(heap, &[head(1), line(2), line(1)])?.as_slice(),
-        12,
-        1,
-    )?;
+    refused(&rt, heap, [head(9), line(0)].as_flattened(), 12, 9)?;
+    refused(&rt, heap, [head(1), line(2)].as_flattened(), 12, 2)?;
+    refused(&rt, heap, [head(1), line(1)].as_flattened(), 12, 1)?;
+    refused(&rt, heap, [head(1), line(2), line(1)].as_flattened(), 12, 1)?;
     // a record off the chain is passed over, whatever it holds
     taken(
         &rt,
         heap,
-        file(heap, &[head(2), [9, 9, 9, 9, 9, 9, 9, 9], line(0)])?.as_slice(),
+        [head(2), [9, 9, 9, 9, 9, 9, 9, 9], line(0)].as_flattened(),
         1,
         0,
     )?;
     taken(
         &rt,
         heap,
-        file(heap, &[head(3), rule(0), line(1), line(2)])?.as_slice(),
+        [head(3), rule(0), line(1), line(2)].as_flattened(),
         2,
         1,
     )
@@ -133,35 +100,35 @@ fn records(rt: HostRuntime) -> Result<(), Fail> {
     refused(
         &rt,
         heap,
-        file(heap, &[head(1), [0, 0, 0, 0, 0, 0, 0, 0]])?.as_slice(),
+        [head(1), [0, 0, 0, 0, 0, 0, 0, 0]].as_flattened(),
         13,
         1,
     )?;
     refused(
         &rt,
         heap,
-        file(heap, &[head(1), [6, 0, 1, 2, 0, 0, 0, 0]])?.as_slice(),
+        [head(1), [6, 0, 1, 2, 0, 0, 0, 0]].as_flattened(),
         13,
         1,
     )?;
     refused(
         &rt,
         heap,
-        file(heap, &[head(1), [1, 0, 3, 0, 4, 0, 1, 0]])?.as_slice(),
+        [head(1), [1, 0, 3, 0, 4, 0, 1, 0]].as_flattened(),
         13,
         1,
     )?;
     refused(
         &rt,
         heap,
-        file(heap, &[head(1), [1, 0, 3, 0, 4, 0, 0, 1]])?.as_slice(),
+        [head(1), [1, 0, 3, 0, 4, 0, 0, 1]].as_flattened(),
         13,
         1,
     )?;
     refused(
         &rt,
         heap,
-        file(heap, &[head(1), line(2), line(3), [5, 0, 1, 2, 0, 1, 0, 0]])?.as_slice(),
+        [head(1), line(2), line(3), [5, 0, 1, 2, 0, 1, 0, 0]].as_flattened(),
         13,
         3,
     )?;
@@ -169,14 +136,14 @@ fn records(rt: HostRuntime) -> Result<(), Fail> {
     refused(
         &rt,
         heap,
-        file(heap, &[head(1), [9, 1, 0, 0, 0, 0, 0, 0]])?.as_slice(),
+        [head(1), [9, 1, 0, 0, 0, 0, 0, 0]].as_flattened(),
         13,
         1,
     )?;
     refused(
         &rt,
         heap,
-        file(heap, &[head(2), [1, 1, 4, 0, 3, 0, 0, 0], line(1)])?.as_slice(),
+        [head(2), [1, 1, 4, 0, 3, 0, 0, 0], line(1)].as_flattened(),
         1,
         1,
     )
@@ -188,38 +155,26 @@ fn calls(rt: HostRuntime) -> Result<(), Fail> {
     refused(
         &rt,
         heap,
-        file(heap, &[head(1), [1, 0, 4, 0, 3, 0, 0, 0]])?.as_slice(),
+        [head(1), [1, 0, 4, 0, 3, 0, 0, 0]].as_flattened(),
         1,
         1,
     )?;
+    refused(&rt, heap, [head(1), line(2), rule(0)].as_flattened(), 2, 2)?;
     refused(
         &rt,
         heap,
-        file(heap, &[head(1), line(2), rule(0)])?.as_slice(),
-        2,
-        2,
-    )?;
-    refused(
-        &rt,
-        heap,
-        file(heap, &[head(1), line(2), line(3), [5, 0, 1, 2, 1, 0, 0, 0]])?.as_slice(),
+        [head(1), line(2), line(3), [5, 0, 1, 2, 1, 0, 0, 0]].as_flattened(),
         2,
         3,
     )?;
     refused(
         &rt,
         heap,
-        file(heap, &[head(1), line(2), line(3), [5, 0, 1, 1, 0, 0, 0, 0]])?.as_slice(),
+        [head(1), line(2), line(3), [5, 0, 1, 1, 0, 0, 0, 0]].as_flattened(),
         3,
         3,
     )?;
-    refused(
-        &rt,
-        heap,
-        file(heap, &[head(2), line(0), rule(1)])?.as_slice(),
-        2,
-        2,
-    )
+    refused(&rt, heap, [head(2), line(0), rule(1)].as_flattened(), 2, 2)
 }
 
 #[test]
@@ -264,29 +219,21 @@ fn limits(rt: HostRuntime) -> Result<(), Fail> {
 #[test]
 fn stored_and_loaded(rt: HostRuntime) -> Result<(), Fail> {
     let heap = rt.alloc();
-    let bytes = file(
-        heap,
-        &[head(1), [1, 2, 232, 3, 220, 5, 0, 0], line(3), rule(0)],
-    )?;
-    let loaded = load(heap, 7, CounterBook, bytes.as_slice())?;
+    let bytes = [head(1), [1, 2, 232, 3, 220, 5, 0, 0], line(3), rule(0)];
+    let loaded = load(heap, 7, CounterBook, bytes.as_flattened())?;
     assert!(rt; loaded.fault.is_none());
     let mut short = [9u8; 31];
     assert_eq!(rt;
-        store(&loaded.sheet, &mut short)
-            .err()
-            .ok_or("stored")?
-            .number(),
-        14
+        store(&loaded.sheet, &mut short).err().map(u8::from),
+        Some(14)
     );
     assert_eq!(rt; short[0], 9);
     let mut out = [9u8; 40];
-    assert_eq!(rt; store(&loaded.sheet, &mut out).ok().ok_or("refused")?, 32);
-    assert!(rt; &out[..32] == bytes.as_slice());
+    assert_eq!(rt; store(&loaded.sheet, &mut out), Ok(32));
+    assert!(rt; &out[..32] == bytes.as_flattened());
     assert_eq!(rt; out[32], 9);
     assert_eq!(rt; out[39], 9);
-    let again = reload(heap, &loaded.sheet, &mut out)?
-        .ok()
-        .ok_or("refused")?;
+    let again = reload(heap, &loaded.sheet, &mut out).ok().ok_or("refused")?;
     assert!(rt; again.fault.is_none());
     assert_eq!(rt; again.sheet.number(), 7);
     assert_eq!(rt; again.sheet.lines(), 2);
@@ -310,12 +257,10 @@ fn not_stored(rt: &impl Abort, heap: Global, calls: &[Call], number: u8) -> Resu
     let played = Replay::of(heap, 7, CounterBook, calls)?;
     let mut out = [9u8; 40];
     let fault = store(played.sheet(), &mut out).err().ok_or("stored")?;
-    assert_eq!(rt; fault.number(), number);
-    for byte in &out {
-        assert_eq!(rt; *byte, 9);
-    }
+    assert_eq!(rt; u8::from(fault), number);
+    assert_eq!(rt; out, [9u8; 40]);
     let fault = store(played.sheet(), &mut []).err().ok_or("stored")?;
-    assert_eq!(rt; fault.number(), number);
+    assert_eq!(rt; u8::from(fault), number);
     Ok(())
 }
 
@@ -339,9 +284,9 @@ fn a_store_writes_the_windows_as_they_are_now(rt: HostRuntime) -> Result<(), Fai
     };
     let played = Replay::of(heap, 7, CounterBook, &[a, b, tie, pinch, Call::Settle(10)])?;
     let mut out = [9u8; 33];
-    assert_eq!(rt; store(played.sheet(), &mut out).ok().ok_or("refused")?, 32);
-    let want = file(heap, &[head(1), [1, 2, 2, 0, 4, 0, 0, 0], line(3), rule(0)])?;
-    assert!(rt; &out[..32] == want.as_slice());
+    assert_eq!(rt; store(played.sheet(), &mut out), Ok(32));
+    let want = [head(1), [1, 2, 2, 0, 4, 0, 0, 0], line(3), rule(0)];
+    assert!(rt; &out[..32] == want.as_flattened());
     assert_eq!(rt; out[32], 9);
     Ok(())
 }
@@ -357,11 +302,7 @@ fn the_first_of_two_faults(rt: HostRuntime) -> Result<(), Fail> {
     refused(
         &rt,
         heap,
-        file(
-            heap,
-            &[head(2), [9, 0, 0, 0, 0, 0, 0, 0], [1, 1, 4, 0, 3, 0, 0, 0]],
-        )?
-        .as_slice(),
+        [head(2), [9, 0, 0, 0, 0, 0, 0, 0], [1, 1, 4, 0, 3, 0, 0, 0]].as_flattened(),
         1,
         2,
     )?;
@@ -369,7 +310,7 @@ fn the_first_of_two_faults(rt: HostRuntime) -> Result<(), Fail> {
     refused(
         &rt,
         heap,
-        file(heap, &[head(1), [1, 0, 4, 0, 3, 0, 0, 9]])?.as_slice(),
+        [head(1), [1, 0, 4, 0, 3, 0, 0, 9]].as_flattened(),
         13,
         1,
     )?;
@@ -377,7 +318,7 @@ fn the_first_of_two_faults(rt: HostRuntime) -> Result<(), Fail> {
     refused(
         &rt,
         heap,
-        file(heap, &[head(1), [5, 0, 1, 1, 0, 0, 0, 0]])?.as_slice(),
+        [head(1), [5, 0, 1, 1, 0, 0, 0, 0]].as_flattened(),
         2,
         1,
     )
@@ -387,18 +328,12 @@ fn the_first_of_two_faults(rt: HostRuntime) -> Result<(), Fail> {
 fn refused_stores(rt: HostRuntime) -> Result<(), Fail> {
     let heap = rt.alloc();
     // line 1 must not be after line 2, and is
-    let bytes = file(heap, &[head(1), [1, 2, 9, 0, 9, 0, 0, 0], line(3), rule(0)])?;
-    let mut loaded = load(heap, 7, CounterBook, bytes.as_slice())?;
+    let bytes = [head(1), [1, 2, 9, 0, 9, 0, 0, 0], line(3), rule(0)];
+    let mut loaded = load(heap, 7, CounterBook, bytes.as_flattened())?;
     assert!(rt; loaded.fault.is_none());
     let _ = loaded.sheet.settle(10);
     let mut out = [9u8; 8];
-    assert_eq!(rt;
-        store(&loaded.sheet, &mut out)
-            .err()
-            .ok_or("stored")?
-            .number(),
-        7
-    );
+    assert_eq!(rt; store(&loaded.sheet, &mut out).err().map(u8::from), Some(7));
     assert_eq!(rt; out[0], 9);
     Ok(())
 }
@@ -406,11 +341,8 @@ fn refused_stores(rt: HostRuntime) -> Result<(), Fail> {
 #[test]
 fn stored_and_loaded_under_another_number(rt: HostRuntime) -> Result<(), Fail> {
     let heap = rt.alloc();
-    let bytes = file(
-        heap,
-        &[head(1), [1, 2, 232, 3, 220, 5, 0, 0], line(3), rule(0)],
-    )?;
-    let loaded = load_in(Room::reserve(heap)?, 7, CounterBook, bytes.as_slice());
+    let bytes = [head(1), [1, 2, 232, 3, 220, 5, 0, 0], line(3), rule(0)];
+    let loaded = load_in(Room::reserve(heap)?, 7, CounterBook, bytes.as_flattened());
     assert!(rt; loaded.fault.is_none());
     let mut out = [9u8; 40];
     let again = reload_in(Room::reserve(heap)?, 8, &loaded.sheet, &mut out)
@@ -420,7 +352,7 @@ fn stored_and_loaded_under_another_number(rt: HostRuntime) -> Result<(), Fail> {
     assert_eq!(rt; again.sheet.number(), 8);
     assert_eq!(rt; again.sheet.lines(), 2);
     assert_eq!(rt; again.sheet.rules(), 1);
-    assert!(rt; &out[0..32] == bytes.as_slice());
+    assert!(rt; &out[0..32] == bytes.as_flattened());
     assert_eq!(rt; out[32], 9);
     Ok(())
 }
@@ -430,20 +362,20 @@ fn another_book(rt: HostRuntime) -> Result<(), Fail> {
     let heap = rt.alloc();
     let bare = [1, 1, 9, 3, 0, 0, 0, 0];
     // the book has no kind of rule
-    let bytes = file(heap, &[bare, line(2), line(3), rule(0)])?;
-    let loaded = load_in(Room::reserve(heap)?, 7, BareBook, bytes.as_slice());
+    let bytes = [bare, line(2), line(3), rule(0)];
+    let loaded = load_in(Room::reserve(heap)?, 7, BareBook, bytes.as_flattened());
     let fault = loaded.fault.ok_or("no fault")?;
-    assert_eq!(rt; (fault.number(), fault.at()), (4, 3));
+    assert_eq!(rt; (u8::from(fault), fault.at()), (4, 3));
     assert_eq!(rt; loaded.sheet.lines(), 0);
     // and its own top
-    let high = file(heap, &[bare, line(2), [1, 0, 3, 0, 101, 0, 0, 0]])?;
-    let loaded = load_in(Room::reserve(heap)?, 7, BareBook, high.as_slice());
+    let high = [bare, line(2), [1, 0, 3, 0, 101, 0, 0, 0]];
+    let loaded = load_in(Room::reserve(heap)?, 7, BareBook, high.as_flattened());
     let fault = loaded.fault.ok_or("no fault")?;
-    assert_eq!(rt; (fault.number(), fault.at()), (1, 2));
+    assert_eq!(rt; (u8::from(fault), fault.at()), (1, 2));
     // and its own drive and mode
-    let counter = file(heap, &[head(1), line(0)])?;
-    let loaded = load_in(Room::reserve(heap)?, 7, BareBook, counter.as_slice());
+    let counter = [head(1), line(0)];
+    let loaded = load_in(Room::reserve(heap)?, 7, BareBook, counter.as_flattened());
     let fault = loaded.fault.ok_or("no fault")?;
-    assert_eq!(rt; (fault.number(), fault.at()), (11, 0));
+    assert_eq!(rt; (u8::from(fault), fault.at()), (11, 0));
     Ok(())
 }

@@ -1,16 +1,12 @@
 -- Marks as rules and tries come and go. Assumes nothing.
-use Rattle.std.proofs.Common.{◌≡◌, ℕ, zero, suc, ◌+◌, ◌<◌, ◌≤◌, min, ltb, List, [], ◌∷◌, ◌++◌, map, reverse, length, get_or, take, drop, is_some, Some, None, Option, sym, refl, ap, ◌∙◌, subst, ap₂, subst₂, suc-le-suc, zero-le, le_refl, arith}
+use Rattle.std.proofs.Common.{◌≡◌, ℕ, zero, suc, ◌+◌, ◌<◌, ◌≤◌, min, List, [], ◌∷◌, ◌++◌, map, reverse, length, get_or, take, Some, None, Option, sym, refl, ap, ◌∙◌, subst, ap₂, subst₂, suc-le-suc, zero-le, le_refl, arith}
 use native.Mathlib.Decide.{dec_le}
 use mathlib.Core.List.{map-append}
-use Rattle.std.proofs.lemmas.List.{append-nil, get_or_past, get_or_default, nil_from_length, reverse-append, take_all, take-take, take-append-le}
-use Rattle.std.proofs.lemmas.Bool.{ltb-false}
+use Rattle.std.proofs.lemmas.List.{append-nil, get_or_append_left, get_or_past, get_or_default, reverse-append, take-take, take-append-le}
 use Rattle.std.specs.Option.{option_to_list}
 use Rattle.windows.specs.Spans.{Every}
 use Rattle.windows.proofs.Spans.{every_map, every_right}
-use Rattle.windows.specs.Windows.{span}
-use Rattle.windows.specs.declared.window.Window.{Window}
 use Rattle.law.specs.declared.calls.Rule.{Rule}
-use Rattle.law.specs.declared.calls.State.{State}
 use Rattle.law.specs.Sheets.{Core}
 use Rattle.tables.specs.declared.mark.Mark.{Mark}
 use Rattle.tables.specs.Marks.{counts, Nested}
@@ -79,13 +75,8 @@ nested_keep n ms k h i j l = elim (dec_le (length (counts ms)) j) [
   | no inner ↦ subst₂ ◌≤◌ (sym (front i (omega arith))) (sym (front j (omega arith))) (h i j l)
 ]
   where
-    left : (cs : List ℕ) (x i : ℕ) → i < length cs → get_or cs i n ≡ get_or (cs ++ (x ∷ [])) i n
-    left [] x i l = let z : ⊥ = omega arith in absurd z
-    left (c ∷ cs) x zero l = refl
-    left (c ∷ cs) x (suc i) l = left cs x i (omega arith)
-
     front : (i : ℕ) → i < length (counts ms) → get_or (counts ms) i n ≡ get_or (counts (ms ++ (k ∷ []))) i n
-    front i l = left (counts ms) k.rules i l ∙ ap (λ (cs : List ℕ). get_or cs i n) (sym (map-append (λ (m : Mark). m.rules) ms (k ∷ [])))
+    front i l = sym (get_or_append_left (counts ms) (k.rules ∷ []) n i l) ∙ ap (λ (cs : List ℕ). get_or cs i n) (sym (map-append (λ (m : Mark). m.rules) ms (k ∷ [])))
 
     bounded : (i : ℕ) → get_or (counts ms) i n ≤ n
     bounded i = elim (dec_le (length (counts ms)) i) [
@@ -123,15 +114,6 @@ found_strike rules n ms h =
 pub saved_push : (f : Mark → Core) (ms : List Mark) (k : Mark) → reverse (map f (ms ++ (k ∷ []))) ≡ f k ∷ reverse (map f ms)
 saved_push f ms k = ap reverse (map-append f ms (k ∷ [])) ∙ reverse-append (map f ms) (f k ∷ [])
 
--- The cores of all marks but the last.
-pub saved_pop : (f : Mark → Core) (all ms : List Mark) (r : Option Mark) → all ≡ ms ++ option_to_list r → is_some r ≡ ltb 0 (length all) → reverse (map f ms) ≡ drop 1 (reverse (map f all))
-saved_pop f all ms (Some k) e t = sym (ap (drop 1) (ap (λ (xs : List Mark). reverse (map f xs)) e ∙ saved_push f ms k))
-saved_pop f all ms None e t =
-    let none : length all ≡ 0 = omega (arith, ltb-false _ _ (sym t)) in
-    let nothing : all ≡ [] = nil_from_length all none in
-    let left : ms ≡ [] = sym (append-nil ms) ∙ sym e ∙ nothing in
-    ap (λ (xs : List Mark). reverse (map f xs)) left ∙ sym (ap (λ (xs : List Mark). drop 1 (reverse (map f xs))) nothing)
-
 -- Nested marks without the last are nested.
 pub nested_pop : (n : ℕ) (all ms : List Mark) (r : Option Mark) → all ≡ ms ++ option_to_list r → Nested n all → Nested n ms
 nested_pop n all ms (Some k) e h = nested_keep n ms k (subst (Nested n) e h)
@@ -140,9 +122,3 @@ nested_pop n all ms None e h = subst (Nested n) (e ∙ append-nil ms) h
 -- The innermost mark has at most as many rules as the sheet.
 pub last_up_to : (n : ℕ) (ms : List Mark) (k : Mark) → Nested n (ms ++ (k ∷ [])) → k.rules ≤ n
 last_up_to n ms k h = (every_right (λ (m : Mark). m.rules ≤ n) ms (k ∷ []) (up_to n (ms ++ (k ∷ [])) h)).0
-
--- All windows and all rules: the core as it is.
-pub found_now : (state : State) (rules : ℕ) (saved ws : List Window) (rs : List Rule) → rules ≡ length rs → saved ≡ ws → ◌≡◌ {A = Core} (record { state = state; windows = map span saved; rules = take rules rs }) (record { state = state; windows = map span ws; rules = rs })
-found_now state rules saved ws rs e f =
-    let all : take rules rs ≡ rs = take_all rules rs (omega arith) in
-    λ i. record { state = state; windows = map span (f i); rules = all i }

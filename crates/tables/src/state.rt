@@ -5,7 +5,7 @@ ghost use Rattle.tables.specs.States.{follows};
 use law::calls::{Refusal, State};
 
 /// What happens to a sheet, as far as its state goes.
-#[derive(Clone, Copy)]
+#[derive(Debug, Clone, Copy, PartialEq, Eq)]
 pub enum Event {
     /// A line, a rule or a pinch.
     Change,

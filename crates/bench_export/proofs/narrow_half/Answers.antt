@@ -5,7 +5,7 @@ use mathlib.Core.Path.{◌≡◌, refl, sym, subst, ◌∙◌}
 use Rattle.half.specs.Roundings.{mode_number}
 use Rattle.half.specs.declared.mode.Mode.{Mode}
 use Rattle.half.specs.declared.mode.Mode.TheVariants.{TowardZero, Nearest, Up}
-use Rattle.books.specs.HalfBooks.{HalfMeets, half_lines}
+use Rattle.books.specs.HalfBooks.{half_meaning}
 use Rattle.bench_export.specs.Told.{Told}
 use Rattle.bench_export.proofs.narrow_half.Goals as goal
 
@@ -27,7 +27,7 @@ mode_few Up = omega arith
 
 pub returns-in-Ok : goal.returns-in-Ok
 returns-in-Ok c = record {
-  told = λ (m : Mode) e. subst (λ (x : Mode). Told 31743 (half_lines c.args.kind) (HalfMeets x c.args.kind) c.args.ends.now c.narrow_ends.new.ends c.narrow_ends.result)
+  told = λ (m : Mode) e. subst (λ (x : Mode). Told (half_meaning x) c.args.kind c.args.ends.now c.narrow_ends.new.ends c.narrow_ends.result)
       (same_mode c.in-Ok.book.mode m (c.in-Ok.ensures ∙ sym e)) c.narrow_ends.ensures;
   none = λ over. let few = mode_few c.in-Ok.book.mode in let is = c.in-Ok.ensures in let w : ⊥ = omega (arith, few, is, over) in absurd w;
 }

@@ -1,29 +1,33 @@
 //! Kinds by their numbers.
 ghost use Rattle.std.specs.Prelude.{◌≡◌};
-ghost use Rattle.books.specs.Kinds.{among, lines, lines_of, numbered};
+ghost use Rattle.books.specs.Kinds.{Decodes, among, lines, lines_of};
 
-use super::Kind;
+use super::{Kind, UnknownKind};
 
-impl Kind {
-    /// The kind of this number, if there is one.
-    pub(crate) fn numbered(number: u32) -> Option<Kind>
-        ensures { result ≡ numbered number }
-    {
+impl TryFrom<u32> for Kind {
+    type Error = UnknownKind;
+
+    ghost try_from_gives = { Decodes };
+
+    /// The kind of this number.
+    fn try_from(number: u32) -> Result<Kind, UnknownKind> {
         match number {
-            2 => Some(Kind::Travel),
-            3 => Some(Kind::Sum),
-            4 => Some(Kind::Later),
-            5 => Some(Kind::NotAfter),
-            _ => None,
+            2 => Ok(Kind::Travel),
+            3 => Ok(Kind::Sum),
+            4 => Ok(Kind::Later),
+            5 => Ok(Kind::NotAfter),
+            _ => Err(UnknownKind(number)),
         }
     }
+}
 
+impl Kind {
     /// The kind of this number if `kinds` has it, told by its place.
     pub(crate) fn among(kinds: &[bool; 8], number: u32) -> Option<Kind>
         ensures { result ≡ among kinds.now number }
     {
         if number < 8 && kinds[number as usize] {
-            Kind::numbered(number)
+            Kind::try_from(number).ok()
         } else {
             None
         }
@@ -43,9 +47,6 @@ impl Kind {
     pub(crate) fn lines_among(kinds: &[bool; 8], number: u32) -> u32
         ensures { result ≡ lines_of (among kinds.now number) }
     {
-        match Kind::among(kinds, number) {
-            Some(known) => known.lines(),
-            None => 0,
-        }
+        Kind::among(kinds, number).map_or(0, Kind::lines)
     }
 }

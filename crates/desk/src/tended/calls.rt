@@ -4,9 +4,8 @@ ghost use Rattle.desk.specs.Hands.{Found, call_of};
 ghost use Rattle.desk.specs.Tended.{hand_of, meaning_of, model_of, number_of};
 ghost use Rattle.law.specs.Law.{Called};
 
-use super::{CounterFolder, HalfFolder, Tended};
+use super::Tended;
 use crate::folder::calls::Plain;
-use crate::folder::set_up::find_ticket;
 use crate::folder::tickets::Ending;
 use law::calls::{Answer, Refusal};
 
@@ -17,30 +16,21 @@ impl Tended {
         ensures hand { hand_of self.new ≡ hand_of self.old }
         ensures number { number_of self.new ≡ number_of self.old }
     {
-        match self {
-            Tended::Counter(counter) => counter.folder.plain(call),
-            Tended::Half(half) => half.folder.plain(call),
-        }
+        either!(self, folder => folder.plain(call))
     }
 
     /// Begins a try, and takes its ticket in hand at this place.
     pub(crate) fn open(&mut self, place: u32) -> Result<(), Refusal>
         ensures number { number_of self.new ≡ number_of self.old }
     {
-        match self {
-            Tended::Counter(counter) => counter.folder.open(place),
-            Tended::Half(half) => half.folder.open(place),
-        }
+        either!(self, folder => folder.open(place))
     }
 
     /// Where the ticket of this place is in hand.
     pub(crate) fn find(&self, place: u32) -> Option<usize>
         ensures { Found (hand_of self.now) place result }
     {
-        match self {
-            Tended::Counter(counter) => find_ticket(&counter.folder.hand, place),
-            Tended::Half(half) => find_ticket(&half.folder.hand, place),
-        }
+        either!(self, folder => folder.find(place))
     }
 
     /// Hands one of its own tickets to the sheet.
@@ -48,10 +38,7 @@ impl Tended {
         requires { at < length (hand_of self.old) }
         ensures number { number_of self.new ≡ number_of self.old }
     {
-        match self {
-            Tended::Counter(counter) => counter.folder.hand_in(at, ending),
-            Tended::Half(half) => half.folder.hand_in(at, ending),
-        }
+        either!(self, folder => folder.hand_in(at, ending))
     }
 
     /// Hands a ticket of another sheet to this one.
@@ -61,29 +48,11 @@ impl Tended {
         ensures number { number_of self.new ≡ number_of self.old }
         ensures source { number_of source.new ≡ number_of source.old }
     {
-        match self {
-            Tended::Counter(to) => match source {
-                Tended::Counter(from) => to.folder.turn_away(&mut from.folder, at, ending),
-                Tended::Half(from) => to.folder.turn_away(&mut from.folder, at, ending),
-            },
-            Tended::Half(to) => match source {
-                Tended::Counter(from) => to.folder.turn_away(&mut from.folder, at, ending),
-                Tended::Half(from) => to.folder.turn_away(&mut from.folder, at, ending),
-            },
-        }
+        either!(self, to => either!(source, from => to.turn_away(from, at, ending)))
     }
 
     /// Strikes the open tries, innermost first, and puts the sheet away.
     pub(crate) fn close(self) {
-        match self {
-            Tended::Counter(counter) => {
-                let CounterFolder { folder } = counter;
-                folder.close();
-            }
-            Tended::Half(half) => {
-                let HalfFolder { folder } = half;
-                folder.close();
-            }
-        }
+        either!(self, folder => folder.close());
     }
 }

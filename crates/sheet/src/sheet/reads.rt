@@ -3,7 +3,6 @@ ghost use Rattle.std.specs.Prelude.{◌≡◌, ◌+◌, ◌-◌, [], map, length
 ghost use Rattle.law.specs.Law.{Law};
 ghost use Rattle.law.specs.Sheets.{empty};
 ghost use Rattle.law.specs.Steps.{Reached};
-ghost use Rattle.runs.specs.Rounds.{meaning};
 ghost use Rattle.tables.specs.Reads.{Read};
 ghost use Rattle.tables.specs.Rooms.{RoomOf};
 ghost use Rattle.tables.specs.Views.{model};
@@ -24,20 +23,9 @@ impl<B: Book + Drop> Sheet<B> {
         ensures empty { IfOk result (λ s. model s.tables ≡ empty) }
         ensures number { IfOk result (λ s. s.number ≡ number) }
         ensures book { IfOk result (λ s. s.book ≡ book) }
-        ensures reached { IfOk result (λ s. Reached (meaning B.top B.arity B.counts (B.related book)) number [] (model s.tables)) }
+        ensures reached { IfOk result (λ s. Reached (B.meaning book) number [] (model s.tables)) }
     {
-        Sheet::set_up(heap, number, book)
-    }
-
-    /// The same: the empty list of calls leads to the empty sheet.
-    fn set_up(heap: Global, number: u32, book: B) -> Result<Sheet<B>, AllocError>
-        ensures empty { IfOk result (λ s. model s.tables ≡ empty) }
-        ensures number { IfOk result (λ s. s.number ≡ number) }
-        ensures book { IfOk result (λ s. s.book ≡ book) }
-        ensures reached { IfOk result (λ s. Reached (meaning B.top B.arity B.counts (B.related book)) number [] (model s.tables)) }
-    {
-        let room = Room::reserve(heap)?;
-        Ok(Sheet::in_room(room, number, book))
+        Ok(Sheet::in_room(Room::reserve(heap)?, number, book))
     }
 }
 
@@ -47,8 +35,8 @@ impl<B: Book> Sheet<B> {
         ensures empty { model result.tables ≡ empty }
         ensures number { result.number ≡ number }
         ensures book { result.book ≡ book }
-        ensures reached { Reached (meaning B.top B.arity B.counts (B.related book)) number [] (model result.tables) }
-        ensures law { Law (meaning B.top B.arity B.counts (B.related book)) number [] (model result.tables) }
+        ensures reached { Reached (B.meaning book) number [] (model result.tables) }
+        ensures law { Law (B.meaning book) number [] (model result.tables) }
     {
         Sheet {
             book,

@@ -3,7 +3,7 @@ ghost use Rattle.std.specs.Prelude.{◌≡◌, ◌<◌, ◌≤◌, vec_len};
 ghost use Rattle.law.specs.Sheets.{empty};
 ghost use Rattle.law.specs.Sound.{SoundCore};
 ghost use Rattle.law.specs.Steps.{Settles, with_core};
-ghost use Rattle.runs.specs.Rounds.{answered, meaning};
+ghost use Rattle.runs.specs.Rounds.{answered};
 ghost use Rattle.tables.specs.Edits.{SameRulesAndTries, lined_as, pinched_as, ruled_as};
 ghost use Rattle.tables.specs.Rooms.{RoomOf};
 ghost use Rattle.tables.specs.Views.{core, model};
@@ -13,7 +13,6 @@ use super::Tables;
 use crate::room::Room;
 use books::book::Book;
 use law::calls::{Rule, State};
-use runs::place::put_at;
 use runs::settle::settle;
 use runs::settled::Settled;
 use windows::window::Window;
@@ -61,51 +60,14 @@ impl Tables {
         ensures added { vec_len self.old.lines.windows < 64 → model self.new ≡ with_core (model self.old) (lined_as next (core self.old) (span window)) }
         ensures full { 64 ≤ vec_len self.old.lines.windows → self.new ≡ self.old }
     {
-        self.push_line(window, next)
-    }
-
-    /// One more rule; where there are 128 nothing changes.
-    pub fn add_rule(&mut self, rule: Rule, next: State)
-        ensures added { vec_len self.old.rules.items < 128 → model self.new ≡ with_core (model self.old) (ruled_as next (core self.old) rule) }
-        ensures full { 128 ≤ vec_len self.old.rules.items → self.new ≡ self.old }
-    {
-        self.push_rule(rule, next)
-    }
-
-    /// Another window for line `k`.
-    pub fn set_window(&mut self, k: u32, window: Window, next: State)
-        ensures { model self.new ≡ with_core (model self.old) (pinched_as next (core self.old) k (span window)) }
-    {
-        self.write_window(k, window, next)
-    }
-
-    /// Settles with an allowance of `n` narrowings.
-    pub fn settle<B: Book>(&mut self, book: &B, n: u32) -> Settled
-        ensures kept { SameRulesAndTries (model self.old) (model self.new) }
-        ensures settled { SoundCore (meaning B.top B.arity B.counts (B.related book.now)) (core self.old)
-            → Settles (meaning B.top B.arity B.counts (B.related book.now)) (model self.old) n (model self.new) (answered result) }
-    {
-        let settled = settle(book, &self.rules, &mut self.lines, n);
-        self.state = settled.state();
-        settled
-    }
-}
-
-// What the calls above come to, with the proofs.
-impl Tables {
-    /// The line put after the others.
-    fn push_line(&mut self, window: Window, next: State)
-        ensures added { vec_len self.old.lines.windows < 64 → model self.new ≡ with_core (model self.old) (lined_as next (core self.old) (span window)) }
-        ensures full { 64 ≤ vec_len self.old.lines.windows → self.new ≡ self.old }
-    {
         if self.lines.windows.len() < 64 {
             self.lines.windows.push_reserved(window);
             self.state = next;
         }
     }
 
-    /// The rule put after the others.
-    fn push_rule(&mut self, rule: Rule, next: State)
+    /// One more rule; where there are 128 nothing changes.
+    pub fn add_rule(&mut self, rule: Rule, next: State)
         ensures added { vec_len self.old.rules.items < 128 → model self.new ≡ with_core (model self.old) (ruled_as next (core self.old) rule) }
         ensures full { 128 ≤ vec_len self.old.rules.items → self.new ≡ self.old }
     {
@@ -115,11 +77,22 @@ impl Tables {
         }
     }
 
-    /// The window put in its place.
-    fn write_window(&mut self, k: u32, window: Window, next: State)
+    /// Another window for line `k`.
+    pub fn set_window(&mut self, k: u32, window: Window, next: State)
         ensures { model self.new ≡ with_core (model self.old) (pinched_as next (core self.old) k (span window)) }
     {
-        put_at(self.lines.windows.as_mut_slice(), k, window);
+        self.lines.put(k, window);
         self.state = next;
+    }
+
+    /// Settles with an allowance of `n` narrowings.
+    pub fn settle<B: Book>(&mut self, book: &B, n: u32) -> Settled
+        ensures kept { SameRulesAndTries (model self.old) (model self.new) }
+        ensures settled { SoundCore (B.meaning book.now) (core self.old)
+            → Settles (B.meaning book.now) (model self.old) n (model self.new) (answered result) }
+    {
+        let settled = settle(book, &self.rules, &mut self.lines, n);
+        self.state = settled.state();
+        settled
     }
 }

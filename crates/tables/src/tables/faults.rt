@@ -1,5 +1,5 @@
 //! The cases in which calls are turned away: by the sheet's state, and after it by the table.
-ghost use Rattle.std.specs.Prelude.{◌≡◌, ◌⊎◌, map, vec_len};
+ghost use Rattle.std.specs.Prelude.{◌≡◌, map, vec_len};
 ghost use Rattle.law.specs.Faults.{fault};
 ghost use Rattle.law.specs.Sheets.{named_by, window};
 ghost use Rattle.law.specs.Table.{first, line_cases, misnames, no_line, open_cases, pinch_cases, repeats, rule_cases, ticket_cases};
@@ -11,39 +11,38 @@ use crate::state::{Event, next_state};
 use books::book::Book;
 use law::calls::{Refusal, Rule, State};
 use law::table::{Check, first_fault};
-use runs::place::window_at;
 
 /// Whether no line has the number `k`, where there are `lines`.
 pub(super) fn no_line(lines: u32, k: u32) -> bool
     ensures { result ≡ no_line lines k }
 {
-    (k == 0) | (lines < k)
+    k == 0 || lines < k
 }
 
 /// Whether a rule of `arity` lines names one that is not there, or a third where it has two.
 fn misnamed(arity: u32, lines: u32, rule: Rule) -> bool
-    requires { (arity ≡ 0) ⊎ ((arity ≡ 2) ⊎ (arity ≡ 3)) }
     ensures { result ≡ misnames arity lines rule }
 {
     match arity {
-        3 => no_line(lines, rule.a) | (no_line(lines, rule.b) | no_line(lines, rule.c)),
-        2 => no_line(lines, rule.a) | no_line(lines, rule.b) | (rule.c != 0),
-        _ => false,
+        0 => false,
+        1 => no_line(lines, rule.a),
+        2 => no_line(lines, rule.a) || no_line(lines, rule.b) || rule.c != 0,
+        _ => no_line(lines, rule.a) || no_line(lines, rule.b) || no_line(lines, rule.c),
     }
 }
 
 /// Whether a rule of `arity` lines names one twice.
 fn repeated(arity: u32, rule: Rule) -> bool
-    requires { (arity ≡ 0) ⊎ ((arity ≡ 2) ⊎ (arity ≡ 3)) }
     ensures { result ≡ repeats (named_by arity rule) }
 {
     match arity {
-        3 => (rule.a == rule.b) | (rule.a == rule.c) | (rule.b == rule.c),
+        0 | 1 => false,
         2 => rule.a == rule.b,
-        _ => false,
+        _ => rule.a == rule.b || rule.a == rule.c || rule.b == rule.c,
     }
 }
 
+// The cases are data: each has its refusal whether it applies or not, as in the definitions, which are lists of them.
 impl Tables {
     /// The state after the event; a barren sheet takes nothing but a strike.
     pub fn admit(&self, event: Event) -> Result<State, Refusal>
@@ -59,7 +58,7 @@ impl Tables {
         first_fault(&[
             Check {
                 why: Refusal::Ends,
-                applies: (hi < lo) | (top < hi),
+                applies: hi < lo || top < hi,
             },
             Check {
                 why: Refusal::Full,
@@ -70,7 +69,7 @@ impl Tables {
 
     /// The cases of a rule, by how many lines the book has for its kind.
     pub fn check_rule<B: Book>(&self, rule: Rule) -> Result<(), Refusal>
-        ensures { fault result ≡ first (rule_cases (B.arity rule.kind) (vec_len self.now.lines.windows) (vec_len self.now.rules.items) rule) }
+        ensures { (book : B) → fault result ≡ first (rule_cases ((B.meaning book).arity rule.kind) (vec_len self.now.lines.windows) (vec_len self.now.rules.items) rule) }
     {
         let count = B::lines(rule.kind);
         first_fault(&[
@@ -97,7 +96,7 @@ impl Tables {
     pub fn check_pinch(&self, top: u32, k: u32, lo: u32, hi: u32) -> Result<(), Refusal>
         ensures { fault result ≡ first (pinch_cases top (vec_len self.now.lines.windows) (window (map span self.now.lines.windows.items) k) k lo hi) }
     {
-        let present = window_at(self.lines.windows.as_slice(), k);
+        let present = self.lines.window(k);
         first_fault(&[
             Check {
                 why: Refusal::NoLine,
@@ -105,7 +104,7 @@ impl Tables {
             },
             Check {
                 why: Refusal::Ends,
-                applies: (hi < lo) | (top < hi),
+                applies: hi < lo || top < hi,
             },
             Check {
                 why: Refusal::Empties,
@@ -130,7 +129,7 @@ impl Tables {
     {
         first_fault(&[Check {
             why: Refusal::WrongTicket,
-            applies: (number != id) | ((depth != self.try_count()) | (depth == 0)),
+            applies: number != id || depth != self.try_count() || depth == 0,
         }])
     }
 }

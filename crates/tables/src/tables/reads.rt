@@ -7,7 +7,6 @@ ghost use Rattle.windows.specs.Windows.{span};
 use super::Tables;
 use super::faults::no_line;
 use law::calls::{Refusal, Rule, State};
-use runs::place::window_at;
 use windows::window::Window;
 
 impl Tables {
@@ -37,7 +36,7 @@ impl Tables {
         ensures len { result ≡ vec_len self.now.lines.windows }
         ensures windows { result ≡ length (model self.now).core.windows }
     {
-        self.count_lines()
+        self.lines.windows.len() as u32
     }
 
     /// How many rules there are.
@@ -52,43 +51,17 @@ impl Tables {
         ensures len { result ≡ vec_len self.now.tries }
         ensures saved { result ≡ length (model self.now).saved }
     {
-        self.count_tries()
+        self.tries.len() as u32
     }
 
     /// The window of a line, if there is such a line.
     pub fn read_window(&self, k: u32) -> Result<Window, Refusal>
         ensures { Read (model self.now) k result }
     {
-        self.find_window(k)
-    }
-}
-
-// What the reads above come to, with the proofs.
-impl Tables {
-    /// The length of the table of lines.
-    fn count_lines(&self) -> u32
-        ensures len { result ≡ vec_len self.now.lines.windows }
-        ensures windows { result ≡ length (model self.now).core.windows }
-    {
-        self.lines.windows.len() as u32
-    }
-
-    /// The length of the table of tries.
-    fn count_tries(&self) -> u32
-        ensures len { result ≡ vec_len self.now.tries }
-        ensures saved { result ≡ length (model self.now).saved }
-    {
-        self.tries.len() as u32
-    }
-
-    /// The window, looked for among the lines.
-    fn find_window(&self, k: u32) -> Result<Window, Refusal>
-        ensures { Read (model self.now) k result }
-    {
         if no_line(self.line_count(), k) {
             Err(Refusal::NoLine)
         } else {
-            Ok(window_at(self.lines.windows.as_slice(), k))
+            Ok(self.lines.window(k))
         }
     }
 }

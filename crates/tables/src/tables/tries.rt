@@ -1,6 +1,5 @@
 //! What opening, keeping and striking a try do to the tables.
-ghost use Rattle.std.specs.Prelude.{◌≡◌, ◌+◌, ◌-◌, ◌<◌, ◌≤◌, take, vec_len};
-ghost use Rattle.runs.specs.Snapshots.{kept};
+ghost use Rattle.std.specs.Prelude.{◌≡◌, ◌<◌, ◌≤◌, vec_len};
 ghost use Rattle.tables.specs.Edits.{kept_as, opened_as, struck_as};
 ghost use Rattle.tables.specs.Views.{core, found, model};
 
@@ -8,8 +7,6 @@ use super::Tables;
 use crate::mark::Mark;
 use crate::state::{Event, next_state};
 use law::calls::State;
-use runs::lines::Lines;
-use runs::rules::Rules;
 
 impl Tables {
     /// What the sheet holds, as a mark.
@@ -29,72 +26,34 @@ impl Tables {
         ensures begun { vec_len self.old.tries < 8 → model self.new ≡ opened_as (model self.old) }
         ensures full { 8 ≤ vec_len self.old.tries → self.new ≡ self.old }
     {
-        self.push_mark()
-    }
-
-    /// Ends the innermost try; what was done in it stays.
-    pub fn keep_try(&mut self)
-        ensures { model self.new ≡ kept_as (model self.old) }
-    {
-        self.pop_mark()
-    }
-
-    /// Ends the innermost try, and brings back what its open found.
-    pub fn strike_try(&mut self)
-        ensures { model self.new ≡ struck_as (model self.old) }
-    {
-        self.strike_mark()
-    }
-}
-
-/// Brings back the windows and rules of a mark, and answers the state that follows: the one that its open found.
-fn bring_mark_back(lines: &mut Lines, rules: &mut Rules, state: State, mark: &Mark) -> State
-    ensures state { result ≡ mark.now.state }
-    ensures lines { lines.new.windows.items ≡ kept mark.now.lines }
-    ensures rules { rules.new.items.items ≡ take mark.now.rules rules.old.items.items }
-    ensures rule_count { vec_len rules.new.items + (vec_len rules.old.items - mark.now.rules) ≡ vec_len rules.old.items }
-{
-    lines.bring_back(&mark.lines);
-    rules.items.truncate(mark.rules);
-    after_strike(state, mark.state)
-}
-
-/// The state after a strike: the one that its open found, whatever it was before.
-fn after_strike(state: State, found: State) -> State
-    ensures { result ≡ found }
-{
-    match next_state(state, Event::Restore(found)) {
-        Ok(next) => next,
-        Err(_) => found,
-    }
-}
-
-// What the calls above come to, with the proofs.
-impl Tables {
-    /// A mark more.
-    fn push_mark(&mut self)
-        ensures begun { vec_len self.old.tries < 8 → model self.new ≡ opened_as (model self.old) }
-        ensures full { 8 ≤ vec_len self.old.tries → self.new ≡ self.old }
-    {
         if self.tries.len() < 8 {
             let mark = self.mark();
             self.tries.push_reserved(mark);
         }
     }
 
-    /// A mark less.
-    fn pop_mark(&mut self)
+    /// Ends the innermost try; what was done in it stays.
+    pub fn keep_try(&mut self)
         ensures { model self.new ≡ kept_as (model self.old) }
     {
         let _ = self.tries.pop();
     }
 
-    /// A mark less, and brought back.
-    fn strike_mark(&mut self)
+    /// Ends the innermost try, and brings back what its open found.
+    pub fn strike_try(&mut self)
         ensures { model self.new ≡ struck_as (model self.old) }
     {
         if let Some(mark) = self.tries.pop() {
-            self.state = bring_mark_back(&mut self.lines, &mut self.rules, self.state, &mark);
+            self.lines.bring_back(&mark.lines);
+            self.rules.items.truncate(mark.rules);
+            self.state = after_strike(self.state, mark.state);
         }
     }
+}
+
+/// The state after a strike: the one that its open found, whatever it was before.
+fn after_strike(state: State, found: State) -> State
+    ensures { result ≡ found }
+{
+    next_state(state, Event::Restore(found)).unwrap_or(found)
 }

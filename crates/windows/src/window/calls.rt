@@ -21,10 +21,9 @@ impl Window {
     pub fn spanning(x: u32, y: u32) -> Window
         ensures { span result ≡ spanning x y }
     {
-        if x <= y {
-            Window { lo: x, hi: y }
-        } else {
-            Window { lo: y, hi: x }
+        Window {
+            lo: x.min(y),
+            hi: x.max(y),
         }
     }
 

@@ -3,12 +3,8 @@ use Rattle.std.proofs.Common.{[], ◌∷◌, subst, arith}
 use Rattle.windows.specs.Choices.{Smallest}
 use Rattle.windows.specs.Windows.{span}
 use Rattle.books.specs.Kinds.{IsNotAfter}
-use Rattle.books.proofs.Twos.{two_none, two_closes}
+use Rattle.books.proofs.Twos.{two_closes}
 use Rattle.books.proofs.close.in_order.Goals as goal
-
--- The first window begins after the second has ended.
-pub returns-then-lo-hi : goal.returns-then-lo-hi
-returns-then-lo-hi c = two_none (span c.args.a) (span c.args.b) (omega arith)
 
 -- Both windows are cut at the other's end.
 pub returns : goal.returns

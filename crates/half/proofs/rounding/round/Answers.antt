@@ -33,11 +33,6 @@ overflow_cast-significand c =
     let most = kept_most _ _ _ _ _ at c.args.exact.small c.kept-significand.ensures in
     search rules
 
-pub overflow_add-place : goal.overflow_add-place
-overflow_add-place c =
-    let at = placing c.args.exact _ _ c.bit_length.ensures c.last_place-place.ensures in
-    search rules
-
 pub put_together-requires : goal.put_together-requires
 put_together-requires c =
     let at = placing c.args.exact _ _ c.bit_length.ensures c.last_place-place.ensures in

@@ -1,6 +1,5 @@
-use Rattle.std.proofs.Common.{ℕ, refl, ap₂}
+use Rattle.std.proofs.Common.{ℕ, ◌≤◌, Err, refl, sym, subst, ap}
 use Rattle.tables.specs.Views.{model}
-use Rattle.report.specs.declared.outcome.Outcome.{Outcome}
 use Rattle.report.proofs.Traces.{conclude_fault, conclude_never, conclude_settled, loads_unsettled}
 use Rattle.report.proofs.trace.conclude.Goals as goal
 
@@ -8,16 +7,16 @@ use Rattle.report.proofs.trace.conclude.Goals as goal
 pub returns-in-Some : goal.returns-in-Some
 returns-in-Some g c drive mode bytes loaded =
     conclude_fault _ c.args.loaded.now.sheet.number (model c.args.loaded.now.sheet.tables) c.args.loaded.now.fault c.in-Some.fault _ _
-    c.in-Some.is (ap₂ (λ (n k : ℕ). Outcome.Refused n k) c.number.ensures c.at.ensures) loaded
+    c.in-Some.is (ap Err c.into.ensures) loaded
 
 -- the settle answered
-pub returns-in-Ok : goal.returns-in-Ok
-returns-in-Ok g c drive mode bytes loaded =
-    conclude_settled _ c.args.loaded.now.sheet.number (model c.args.loaded.now.sheet.tables) (model c.settle_loaded.new.sheet.tables)
-    c.args.loaded.now.fault c.in-Ok.answer _ _ g.met.B.Book.small c.in-None.is refl c.in-Ok.ensures loaded
+pub returns-in_ok-settle-in-None : goal.returns-in_ok-settle-in-None
+returns-in_ok-settle-in-None g c drive mode bytes loaded =
+    conclude_settled _ c.args.loaded.now.sheet.number (model c.args.loaded.now.sheet.tables) (model c.settle.new.self.tables)
+    c.args.loaded.now.fault c.in_ok-settle-in-None.field-0 _ _ (subst (λ (n : ℕ). n ≤ 65535) (sym (g.met.B.Book.top c.args.loaded.now.sheet.book)) g.met.B.Book.small) c.in-None.is refl c.in_ok-settle-in-None.ensures.verdict c.in_ok-settle-in-None.ensures.called loaded
 
 -- it is never refused
-pub returns-in-Err : goal.returns-in-Err
-returns-in-Err g c drive mode bytes loaded =
-    conclude_never _ c.args.loaded.now.sheet.number (model c.args.loaded.now.sheet.tables) (model c.settle_loaded.new.sheet.tables)
-    c.args.loaded.now.fault c.in-Err.why _ (loads_unsettled _ c.args.loaded.now.sheet.number drive mode bytes) c.in-None.is c.in-Err.ensures loaded
+pub returns-in_err-settle-in-None : goal.returns-in_err-settle-in-None
+returns-in_err-settle-in-None g c drive mode bytes loaded =
+    conclude_never _ c.args.loaded.now.sheet.number (model c.args.loaded.now.sheet.tables) c.args.loaded.now.fault c.in_err-settle-in-None.field-0.0 _
+    (loads_unsettled _ c.args.loaded.now.sheet.number drive mode bytes) c.in-None.is c.in_err-settle-in-None.ensures.verdict loaded

@@ -2,7 +2,6 @@ use Rattle.std.proofs.Common.{◌≡◌, ℕ}
 use Rattle.law.specs.Histories.{History}
 use Rattle.law.specs.Steps.{Reached}
 use Rattle.windows.specs.Meanings.{Meaning}
-use Rattle.runs.specs.Rounds.{meaning}
 use Rattle.tables.specs.Views.{model}
 use Rattle.stored.specs.Loads.{chain, progress, step, walk}
 use Rattle.stored.proofs.load.take_chain.Given as goal
@@ -10,7 +9,7 @@ use Rattle.stored.proofs.load.take_chain.Given as goal
 -- some history led to the sheet as it is, and what is left of the walk from here on is the walk
 abbrev pub invariant-loop-at : goal.invariant-loop-at
 invariant-loop-at g l =
-    let m : Meaning = meaning g.B.Book.top g.B.Book.arity g.B.Book.counts (g.B.Book.related l.initial.sheet.book) in
+    let m : Meaning = g.B.Book.meaning l.initial.sheet.book in
     let id : ℕ = l.initial.sheet.number in
     (h : History)
     × Reached m id h (model l.sheet.tables)

@@ -1,42 +1,37 @@
-use Rattle.std.proofs.Common.{◌≡◌, ℕ, ◌+◌, ◌-◌, ◌<◌, ◌≤◌, List, ◌++◌, map, length, get_or, drop, sym, ap, ◌∙◌, subst, ap₂, arith}
+use Rattle.std.proofs.Common.{◌≡◌, ℕ, ◌+◌, ◌<◌, ◌≤◌, List, map, length, ◌∙◌, refl, arith}
 use Rattle.windows.specs.Windows.{span}
-use Rattle.std.proofs.lemmas.List.{length-map}
-use Rattle.stored.specs.Records.{head, write}
-use Rattle.stored.specs.Stores.{items_of, next_index, nothing}
+use Rattle.stored.specs.Stores.{items_of}
 use Rattle.stored.specs.declared.item.Item.{Item}
-use Rattle.stored.proofs.Writes.{Put, items_length, put_none, put_next, put_all}
+use Rattle.stored.proofs.Writes.{items_count, item_line, item_rule, put_none, put_next, put_all}
 use Rattle.stored.proofs.store.put_file.Goals as goal
 
 -- the head is written
 pub loop-k-init : goal.loop-k-init
-loop-k-init c =
-    put_none c.put_record.new.out (items_of (map span c.args.lines.now) c.args.rules.now)
-    (let q : 8 ≤ length c.put_record.new.out = omega (arith, ap length c.put_record.ensures) in q)
+loop-k-init c = put_none _ _ _ _ _ _ _ (items_count c.args.lines.now c.args.rules.now) c.index_if.ensures c.put_record.ensures
 
--- one more item
+-- one more line
 pub loop-k-preserved : goal.loop-k-preserved
 loop-k-preserved c =
     let xs : List Item = items_of (map span c.args.lines.now) c.args.rules.now in
-    let E : List ℕ = c.put_record.new.out in
-    let k : ℕ = c.loop-k.k in
-    let count : length xs ≡ length c.args.lines.now + length c.args.rules.now =
-    items_length (map span c.args.lines.now) c.args.rules.now ∙ ap (λ (n : ℕ). n + length c.args.rules.now) (length-map c.args.lines.now span) in
-    let less : k < length xs = omega (arith, count, c.loop-k-test.true) in
-    let written : c.record_of.result ≡ write (get_or xs k nothing) (next_index (k + 2) (length xs - (k + 1))) =
-    c.record_of.ensures ∙ ap₂ write c.item_at-item.ensures (c.index_if-in-loop-k.ensures ∙ ap (λ (n : ℕ). next_index (k + 2) (n - (k + 1))) (sym count)) in
-    subst (λ (out : List ℕ). Put E out xs (k + 1)) (sym c.put_record-in-loop-k.ensures)
-    (put_next E c.loop-k.out xs k c.record_of.result less written c.loop-k.invariant)
+    let less : c.loop-k.k < length xs = omega (arith, items_count c.args.lines.now c.args.rules.now, c.loop-k-test.true) in
+    put_next _ _ _ _ _ _ _ c.loop-k.k _ c.from.result (items_count c.args.lines.now c.args.rules.now) less refl
+    (c.from.ensures ∙ item_line c.args.lines.now c.args.rules.now c.loop-k.k c.index-lines-k.result c.loop-k-test.true c.index-lines-k.is)
+    c.put_item.ensures c.loop-k.invariant
+
+-- one more rule
+pub loop-k-2-preserved : goal.loop-k-2-preserved
+loop-k-2-preserved c =
+    let xs : List Item = items_of (map span c.args.lines.now) c.args.rules.now in
+    let k : ℕ = length c.args.lines.now + c.loop-k-2.k in
+    let less : k < length xs = omega (arith, items_count c.args.lines.now c.args.rules.now, c.loop-k-2-test.true) in
+    let more : length c.args.lines.now + (c.loop-k-2.k + 1) ≡ k + 1 = omega arith in
+    put_next _ _ _ _ _ _ _ k _ _ (items_count c.args.lines.now c.args.rules.now) less more
+    (item_rule c.args.lines.now c.args.rules.now c.loop-k-2.k _ c.loop-k-2-test.true)
+    c.put_item-in-loop-k-2.ensures c.loop-k-2.invariant
 
 -- all of them
 pub returns : goal.returns
 returns c =
     let xs : List Item = items_of (map span c.args.lines.now) c.args.rules.now in
-    let count : length xs ≡ length c.args.lines.now + length c.args.rules.now =
-    items_length (map span c.args.lines.now) c.args.rules.now ∙ ap (λ (n : ℕ). n + length c.args.rules.now) (length-map c.args.lines.now span) in
-    let k : ℕ = c.loop-k.k in
-    let all : length xs ≤ k = omega (arith, count, c.loop-k-test.false) in
-    let began : c.put_record.new.out ≡ head c.args.drive c.args.mode (next_index 1 (length xs)) ++ drop 8 c.args.out.now =
-    c.put_record.ensures
-    ∙ ap (λ (first : ℕ). head c.args.drive c.args.mode first ++ drop 8 c.args.out.now) (c.index_if.ensures ∙ ap (next_index 1) (sym count)) in
-    put_all c.args.drive c.args.mode xs c.args.out.now c.loop-k.out k all
-    (subst (λ (E : List ℕ). Put E c.loop-k.out xs k) began c.loop-k.invariant)
+    let all : length xs ≤ length c.args.lines.now + c.loop-k-2.k = omega (arith, items_count c.args.lines.now c.args.rules.now, c.loop-k-2-test.false) in
+    put_all _ _ xs _ _ _ all c.loop-k-2.invariant

@@ -1,13 +1,12 @@
 -- The tickets are in step, and there is one less each time.
 use Rattle.desk.specs.Hands.{InStep}
-use Rattle.runs.specs.Rounds.{meaning}
 use Rattle.tables.specs.Views.{model}
 use Rattle.std.proofs.Common.{vec_items, vec_len, vec_capacity}
 use Rattle.desk.proofs.folder.Folder.close.Given as goal
 
 abbrev pub invariant-loop-ticket : goal.invariant-loop-ticket
 invariant-loop-ticket g l =
-    InStep (meaning g.B.Book.top g.B.Book.arity g.B.Book.counts (g.B.Book.related l.sheet.book)) l.sheet.number
+    InStep (g.B.Book.meaning l.sheet.book) l.sheet.number
     (model l.sheet.tables) (vec_items l.hand) (vec_capacity l.hand)
 
 abbrev pub decreases-loop-ticket : goal.decreases-loop-ticket

@@ -1,12 +1,12 @@
-use Rattle.std.proofs.Common.{ap}
-use Rattle.runs.specs.Rounds.{meaning}
-use Rattle.desk.proofs.Hands.{loaded_sound, sound_moved}
+use Rattle.desk.proofs.Hands.{fresh_in_step, loaded_sound, sound_moved}
+use Rattle.desk.proofs.Loads.{loaded_idle}
 use Rattle.desk.proofs.folder.Folder.load.Goals as goal
 
-pub hold-requires : goal.hold-requires
-hold-requires g c =
+pub invariant_of-result : goal.invariant_of-result
+invariant_of-result g c =
+    let loaded = c.load_in-sheet.ensures.loaded in
     record {
-      sound =
-          sound_moved (ap (λ b. meaning g.B.Book.top g.B.Book.arity g.B.Book.counts (g.B.Book.related b)) c.load_in-sheet.ensures.book)
-          (loaded_sound _ _ _ _ _ c.load_in-sheet.ensures.loaded);
+      in_step =
+          fresh_in_step (sound_moved (cc) (loaded_sound _ _ _ _ _ loaded)) c.in_ok-hand.ensures.items
+          (loaded_idle _ _ _ _ _ _ _ loaded) c.in_ok-hand.ensures.capacity;
     }

@@ -1,45 +1,45 @@
-use Rattle.std.proofs.Common.{◌≡◌, ℕ, ◌+◌, ◌^◌, ◌<◌, ◌≤◌, false, inl, inr, arith}
-use lib.Count.{count_trailing_zeros}
+use Rattle.std.proofs.Common.{◌≡◌, ℕ, ◌+◌, ◌-◌, ◌/◌, ◌%◌, ◌^◌, ◌<◌, eqb, sym, ap, ◌∙◌, inl, inr, arith, pow-add}
+use Rattle.std.specs.Int.{bit_at, trailing_zeros, w128}
+use Rattle.std.specs.Int.Count.{trailing_of_zero}
+use Rattle.std.proofs.Math.Nat.{div-div-eq-div-mul, div-le_self}
 use Rattle.std.proofs.lemmas.Bool.{cases_lt}
-use Rattle.runs.specs.declared.rule_set.RuleSet.{RuleSet}
-use Rattle.runs.specs.RuleSets.{has}
-use Rattle.runs.proofs.RuleSets.{word_of, left_of, none_left, none_before, found_here}
+use Rattle.std.proofs.lemmas.Nat.Bits.{bit_at-zero, bit_at-trailing_zeros}
 use Rattle.runs.proofs.rule_set.RuleSet.next.Goals as goal
 
--- nothing is left of the word: on to the next
-pub loop-at-preserved : goal.loop-at-preserved
-loop-at-preserved c = (
-  omega (arith, c.loop-at.invariant.0),
-  λ j l h.
-      elim (cases_lt j c.loop-at.at) [
-        | inl less ↦ c.loop-at.invariant.1 j l less
-        | inr more ↦ none_left c.args.self.now.words c.loop-at.at j c.if-rest-ne0.false more h
-      ],
-)
+-- bit k of a number shifted down is bit from + k of the number
+shifted : (n from k : ℕ) → bit_at n (from + k) ≡ bit_at (n / 2 ^ from) k
+shifted n from k = sym (ap (λ (x : ℕ). x % 2) (div-div-eq-div-mul n (2 ^ from) (2 ^ k) ∙ ap (λ (x : ℕ). n / x) (sym (pow-add 2 from k))))
 
--- up to the lowest bit that is left there is no rule
-before :
-    (s : RuleSet) (from at : ℕ) → word_of s.words at < 2 ^ 64 → (left_of s.words at ≡ 0 → ⊥) →
-    ((j : ℕ) → from ≤ j → j < at → has s j ≡ false) →
-    (j : ℕ) → from ≤ j → j < at + count_trailing_zeros 64 (left_of s.words at) → has s j ≡ false
-before s from at fits some none j l h =
-    elim (cases_lt j at) [
-      | inl less ↦ none j l less
-      | inr more ↦ none_before s.words at fits some j more h
-    ]
+-- a number of 128 bits has no bit set below its trailing zeros
+below : (n k : ℕ) → n < 2 ^ 128 → k < trailing_zeros w128 n → bit_at n k ≡ 0
+below n k fits lt = elim (cases_lt 0 n) [ inl some ↦ (bit_at-trailing_zeros w128 n some fits).2 k lt | inr least ↦ ap (λ (x : ℕ). bit_at x k) (omega arith) ∙ bit_at-zero k ]
 
--- it is a rule before the end
-pub returns-then-found-end : goal.returns-then-found-end
-returns-then-found-end c =
-    let fits : word_of c.args.self.now.words c.loop-at.at < 2 ^ 64 = omega arith in (
-      omega (arith, c.loop-at.invariant.0),
-      c.if-found-end.true,
-      found_here c.args.self.now.words c.loop-at.at fits c.if-rest-ne0.true,
-      before c.args.self.now c.args.from c.loop-at.at fits c.if-rest-ne0.true c.loop-at.invariant.1,
-    )
+-- and the bit there is set, where one is
+there : (n : ℕ) → n < 2 ^ 128 → trailing_zeros w128 n < 128 → bit_at n (trailing_zeros w128 n) ≡ 1
+there n fits lt = elim (cases_lt 0 n) [
+  | inl some ↦ (bit_at-trailing_zeros w128 n some fits).1
+  | inr least ↦
+      let none : trailing_zeros w128 n ≡ 128 = ap (trailing_zeros w128) (omega arith) ∙ trailing_of_zero 128 in
+      let z : ⊥ = omega arith in
+      absurd z
+]
 
--- it is not
-pub returns-else-found-end : goal.returns-else-found-end
-returns-else-found-end c = λ j l h.
-    let fits : word_of c.args.self.now.words c.loop-at.at < 2 ^ 64 = omega arith in
-    before c.args.self.now c.args.from c.loop-at.at fits c.if-rest-ne0.true c.loop-at.invariant.1 j l (omega arith)
+-- what is left of the set fits
+fits : (n from : ℕ) → n < 2 ^ 128 → n / 2 ^ from < 2 ^ 128
+fits n from lt = omega (arith, div-le_self n (2 ^ from))
+
+pub returns-clause-passed : goal.returns-clause-passed
+returns-clause-passed c = λ j from to.
+    let n : ℕ = c.args.self.now.bits in
+    let small : n < 2 ^ 128 = omega arith in
+    let split : j ≡ c.args.from + (j - c.args.from) = omega arith in
+    ap (λ (x : ℕ). eqb x 1)
+    (ap (bit_at n) split ∙ shifted n c.args.from (j - c.args.from)
+    ∙ below (n / 2 ^ c.args.from) (j - c.args.from) (fits n c.args.from small) (omega arith))
+
+pub returns-clause-here : goal.returns-clause-here
+returns-clause-here c = λ lt.
+    let n : ℕ = c.args.self.now.bits in
+    let small : n < 2 ^ 128 = omega arith in
+    ap (λ (x : ℕ). eqb x 1)
+    (shifted n c.args.from (trailing_zeros w128 (n / 2 ^ c.args.from)) ∙ there (n / 2 ^ c.args.from) (fits n c.args.from small) (omega arith))

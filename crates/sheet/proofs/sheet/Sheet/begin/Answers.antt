@@ -7,7 +7,6 @@ use Rattle.law.specs.Sheets.{Model}
 use Rattle.law.specs.Steps.{does, refused}
 use Rattle.law.specs.Table.{is_barren}
 use Rattle.law.proofs.Verdicts.{open_taken}
-use Rattle.runs.specs.Rounds.{meaning}
 use Rattle.tables.specs.Views.{model}
 use Rattle.sheet.proofs.Verdicts.{open_barred, open_cleared, held, turned_away, taken}
 use Rattle.tables.proofs.Counts.{tries_count}
@@ -17,7 +16,7 @@ use Rattle.sheet.proofs.sheet.Sheet.begin.Goals as goal
 -- the sheet's state turns the call away
 pub returns-in_err-admit : goal.returns-in_err-admit
 returns-in_err-admit g c =
-    let m : Meaning = meaning g.B.Book.top g.B.Book.arity g.B.Book.counts (g.B.Book.related c.args.self.now.book) in
+    let m : Meaning = g.B.Book.meaning c.args.self.now.book in
     let id : ℕ = c.args.self.now.number in
     let t = c.args.self.now.tables in
     let p = err_from_is_err_and c.from_residual.result c.from_residual.ensures.1 in
@@ -33,7 +32,7 @@ returns-in_err-admit g c =
 -- a case of the table does
 pub returns-in_err-check_open : goal.returns-in_err-check_open
 returns-in_err-check_open g c =
-    let m : Meaning = meaning g.B.Book.top g.B.Book.arity g.B.Book.counts (g.B.Book.related c.args.self.now.book) in
+    let m : Meaning = g.B.Book.meaning c.args.self.now.book in
     let id : ℕ = c.args.self.now.number in
     let t = c.args.self.now.tables in
     let p = err_from_is_err_and c.from_residual-in_err-check_open.result c.from_residual-in_err-check_open.ensures.1 in
@@ -49,7 +48,7 @@ returns-in_err-check_open g c =
 -- the call is taken
 pub returns : goal.returns
 returns g c =
-    let m : Meaning = meaning g.B.Book.top g.B.Book.arity g.B.Book.counts (g.B.Book.related c.args.self.now.book) in
+    let m : Meaning = g.B.Book.meaning c.args.self.now.book in
     let id : ℕ = c.args.self.now.number in
     let t = c.args.self.now.tables in
     let free = open_cleared t m id _ (sym c.in_ok-admit.ensures) ∙ sym c.in_ok-check_open.ensures in

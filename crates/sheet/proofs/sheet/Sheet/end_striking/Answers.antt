@@ -4,7 +4,6 @@ use Rattle.windows.specs.Meanings.{Meaning}
 use Rattle.law.specs.declared.calls.Answer.{Answer}
 use Rattle.law.specs.declared.calls.Call.{Call}
 use Rattle.law.specs.Steps.{does, refused}
-use Rattle.runs.specs.Rounds.{meaning}
 use Rattle.tables.specs.Views.{model}
 use Rattle.sheet.proofs.Verdicts.{strike_verdict, turned_away, taken}
 use Rattle.sheet.proofs.Numbers.{never_turned}
@@ -13,7 +12,7 @@ use Rattle.sheet.proofs.sheet.Sheet.end_striking.Goals as goal
 -- the call is turned away
 pub returns-in_err-check_ticket : goal.returns-in_err-check_ticket
 returns-in_err-check_ticket g c =
-    let m : Meaning = meaning g.B.Book.top g.B.Book.arity g.B.Book.counts (g.B.Book.related c.args.self.now.book) in
+    let m : Meaning = g.B.Book.meaning c.args.self.now.book in
     let id : ℕ = c.args.self.now.number in
     let t = c.args.self.now.tables in
     let p = err_from_is_err_and c.from_residual.result c.from_residual.ensures.1 in
@@ -28,7 +27,7 @@ returns-in_err-check_ticket g c =
 -- it is taken
 pub returns : goal.returns
 returns g c =
-    let m : Meaning = meaning g.B.Book.top g.B.Book.arity g.B.Book.counts (g.B.Book.related c.args.self.now.book) in
+    let m : Meaning = g.B.Book.meaning c.args.self.now.book in
     let id : ℕ = c.args.self.now.number in
     let t = c.args.self.now.tables in
     record {
