@@ -9,14 +9,14 @@ mod judge;
 use compare::{Tally, compare_all};
 use half::product::Product;
 use half::sum::Sum;
-use judge::values_of_codes;
+use judge::Values;
 use std::io;
 
 fn main(rt: HostRuntime) -> io::Result<()> {
-    let values = values_of_codes(rt.alloc())?;
-    let products = compare_all::<Product>(values.as_slice());
+    let values = Values::of_codes(rt.alloc())?;
+    let products = compare_all::<Product>(&values);
     report(&rt, "product", products)?;
-    let sums = compare_all::<Sum>(values.as_slice());
+    let sums = compare_all::<Sum>(&values);
     report(&rt, "sum", sums)
 }
 

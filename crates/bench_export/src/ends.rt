@@ -1,4 +1,4 @@
-//! Three windows as C hands them over.
+//! Three windows as C hands them over: plain types laid out for C, in place of `Window` and `Triple`.
 ghost use Rattle.std.specs.Prelude.{◌≡◌};
 ghost use Rattle.bench_export.specs.Pairs.{pair};
 ghost use Rattle.windows.specs.Windows.{span, spanning};

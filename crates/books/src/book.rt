@@ -23,14 +23,17 @@ pub trait Book {
 
     ghost KINDS: { List Bool };
 
+    ghost arity: { ℕ → ℕ };
+
     ghost mode: { Self → ℕ };
 
     ghost meaning: { Self → Meaning };
 
-    // A kind goes by its number, and a book that has not got it says 0: any number may be asked for, and rules count lines so.
+    // A kind goes by its number, and a book that has not got it says 0: any number may be asked for, and the rules of the project
+    // have it so.
     /// How many lines a kind names: 0 where the book has not got it, else 2 or 3.
     fn lines(kind: u32) -> u32
-        ensures { (book : Self) → result ≡ (meaning book).arity kind };
+        ensures { result ≡ arity kind };
 
     /// The mode of the book at hand.
     fn mode_number(&self) -> u8
@@ -45,9 +48,12 @@ pub trait Book {
     /// The meaning is one of codes up to the top code.
     ghost top: { (book : Self) → (meaning book).top ≡ TOP };
 
+    /// Each book of the type names as many lines by a kind.
+    ghost same: { (book : Self) (kind : ℕ) → (meaning book).arity kind ≡ arity kind };
+
     /// The kinds that name lines are those that the book has.
-    ghost known: { (book : Self) (kind : ℕ) → (slice_index_or KINDS kind false ≡ true) ↔ (0 < (meaning book).arity kind) };
+    ghost known: { (kind : ℕ) → (slice_index_or KINDS kind false ≡ true) ↔ (0 < arity kind) };
 
     /// The kinds are out of 2 to 5.
-    ghost within: { (book : Self) (kind : ℕ) → (kind < 2) ⊎ (5 < kind) → (meaning book).arity kind ≡ 0 };
+    ghost within: { (kind : ℕ) → (kind < 2) ⊎ (5 < kind) → arity kind ≡ 0 };
 }

@@ -1,5 +1,5 @@
 //! The book of the counter drive.
-ghost use Rattle.books.specs.CounterBooks.{counter_meaning};
+ghost use Rattle.books.specs.CounterBooks.{counter_lines, counter_meaning};
 ghost use Rattle.books.specs.Kinds.{known, two_to_five};
 ghost use Rattle.std.proofs.Common.{rules};
 ghost use Rattle.std.specs.Prelude.{refl};
@@ -29,6 +29,8 @@ impl Book for CounterBook {
 
     ghost KINDS = { two_to_five };
 
+    ghost arity = { counter_lines };
+
     ghost mode = { λ _. 0 };
 
     ghost meaning = { λ _. counter_meaning };
@@ -37,7 +39,9 @@ impl Book for CounterBook {
 
     ghost top = { λ _. refl };
 
-    ghost known = { λ _. known };
+    ghost same = { λ _ _. refl };
+
+    ghost known = { known };
 
     ghost within = { Prim.search rules };
 

@@ -1,7 +1,7 @@
 //! The book of the half drive.
 ghost use Rattle.std.specs.Prelude.{◌≡◌, ◌<◌, MatchResult, refl};
 ghost use Rattle.half.specs.Roundings.{mode_number};
-ghost use Rattle.books.specs.HalfBooks.{fault_number, half_meaning};
+ghost use Rattle.books.specs.HalfBooks.{fault_number, half_lines, half_meaning};
 ghost use Rattle.books.specs.Kinds.{known, two_to_five};
 ghost use Rattle.books.specs.declared.half_book.BookFault.TheVariants.{NoMode};
 ghost use Rattle.std.proofs.Common.{rules};
@@ -61,6 +61,8 @@ impl Book for HalfBook {
 
     ghost KINDS = { two_to_five };
 
+    ghost arity = { half_lines };
+
     ghost mode = { λ book. mode_number book.mode };
 
     ghost meaning = { λ book. half_meaning book.mode };
@@ -69,7 +71,9 @@ impl Book for HalfBook {
 
     ghost top = { λ _. refl };
 
-    ghost known = { λ _. known };
+    ghost same = { λ _ _. refl };
+
+    ghost known = { known };
 
     ghost within = { Prim.search rules };
 

@@ -4,7 +4,8 @@ ghost use Rattle.boxes.specs.Walks.{Reaches};
 
 use codes::operation::Operation;
 
-// Loops by hand: codes are no slice to go over or to part, and a step is doubled or halved at each turn.
+// Loops by hand: codes are no slice to go over or to part, and a step is doubled or halved at each turn. `rise` and `fall` mirror one
+// another, as the walks do.
 
 /// The first code from `low` before `high` whose result with `x` is at least `t`, by halving; else `high`.
 pub(crate) fn halve<O: Operation>(op: &O, x: u32, mut low: u32, mut high: u32, t: u32) -> u32

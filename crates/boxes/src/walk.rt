@@ -7,6 +7,8 @@ use crate::search::{fall, rise};
 use codes::operation::Operation;
 use codes::swapped::Swapped;
 
+// Loops by hand, here and below: a walk goes on from point to point, and no list is gone over.
+
 /// The hit with the least first and the greatest second code of all hits in the field, or `None` where there is no hit.
 /// As long as the result is too low only a greater first code can help, as long as it is too high only a lesser second one.
 pub(crate) fn corner<O: Operation + Copy>(op: O, field: Field) -> Option<Point>

@@ -55,7 +55,7 @@ pub enum Reply {
     Struck,
     Window { lo: u32, hi: u32 },
     State(State),
-    // The numbers of refusals, and not the refusals: any number is printed, and a narrower type would ask more of callers.
+    // The numbers of refusals, and not the refusals: replies are public and print any number; an enum would take fewer.
     Refused(u8),
     /// A load was refused, at the record of this index.
     RefusedAt { why: u8, at: u8 },

@@ -1,5 +1,5 @@
 //! What a half code means, as an exact decimal number.
-ghost use Rattle.std.specs.Prelude.{◌≡◌, ◌≤◌, ◌<◌, IfOk, string_bytes};
+ghost use Rattle.std.specs.Prelude.{◌≡◌, ◌<◌, IfOk, string_bytes};
 ghost use Rattle.commands.specs.Values.{ExactEnd, end_text};
 
 use half::size::size_of;

@@ -73,6 +73,7 @@ impl<'a> Words<'a> {
     pub(crate) fn end(&mut self) -> Result<(), Unreadable>
         ensures { result ≡ end self.old }
     {
+        // The two ways turn about: what is there is the error.
         match self.next() {
             None => Ok(()),
             Some(_) => Err(Unreadable::TooMany),

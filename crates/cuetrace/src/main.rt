@@ -11,6 +11,7 @@ fn run(rt: &HostRuntime) -> anyhow::Result<()> {
     let mut input = Vec::new(rt.alloc());
     rt.stdin().read_to_end(&mut input)?;
     let mut output = [0u8; REPORT_MAX];
+    // No plain `?`: the message stays what it was.
     let length = try_trace(rt.alloc(), input.as_slice(), &mut output).map_err(|_| anyhow!(
         "out of memory"
     ))?;

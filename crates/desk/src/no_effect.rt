@@ -35,7 +35,7 @@ impl NoEffect {
     }
 }
 
-// A refusal, a book fault and a store fault each have a number of their own, so each has its own `From`.
+// A `From` for each reason, since `?` asks for it by type; one for all that turn into a number would overlap with the others.
 impl From<Fault> for NoEffect {
     ghost from_gives = { λ fault e. e ≡ Told (AnyReply.Error fault) };
 

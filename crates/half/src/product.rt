@@ -1,5 +1,5 @@
 //! The half drive's product.
-ghost use Rattle.std.specs.Prelude.{◌≤◌, refl};
+ghost use Rattle.std.specs.Prelude.{refl};
 ghost use Rattle.half.specs.Formats.{half as binary16, exact_product};
 ghost use Rattle.half.specs.Sizes.{size_rises};
 ghost use Rattle.std.proofs.Common.{mul-le-mul, pow_pos};

@@ -1,5 +1,5 @@
 //! The half drive's sum.
-ghost use Rattle.std.specs.Prelude.{◌≤◌, refl};
+ghost use Rattle.std.specs.Prelude.{refl};
 ghost use Rattle.half.specs.Formats.{half as binary16, exact_sum};
 ghost use Rattle.half.specs.Sizes.{size_rises};
 ghost use Rattle.std.proofs.Common.{arith};

@@ -38,6 +38,7 @@ pub fn rows_by_mode<X: Exact>(mode: u8, a: &[u32], b: &[u32], out: &mut [u32]) -
 {
     match Mode::try_from(mode) {
         Ok(mode) => fill(Rounded::<X>::new(mode), a, b, out),
+        // No row is written, as C is told.
         Err(_) => 0,
     }
 }

@@ -1,4 +1,5 @@
-//! Half products and sums for C, as a static library: the exports of `half_export`.
+//! Half products and sums for C, as a static library: the exports of `half_export`. C has no type parameters, so each name stands
+//! for one.
 #![tactic(auto)]
 
 ghost use Rattle.std.specs.Prelude.{ℕ, ◌<◌, ◌≤◌, min, cond, ◌≡◌, ltb, length, get_or};

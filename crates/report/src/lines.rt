@@ -81,6 +81,8 @@ fn push_refused(text: &mut Text, refused: RefusedAt)
     text.push_str("\n");
 }
 
+// Three functions ask for an empty text, and fill it where it stands: handed back by value it cost a tenth of a report more.
+
 /// Adds the report to an empty text.
 pub(crate) fn push_report(text: &mut Text, outcome: Result<Settled, RefusedAt>, windows: &[Window])
     requires empty { text.old.bytes ≡ [] }

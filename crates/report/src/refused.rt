@@ -6,7 +6,7 @@ use law::calls::Refusal;
 use stored::fault::LoadFault;
 
 /// A refusal as a report tells it: its number, and the index of the record that is to blame, 0 where none is.
-// Two numbers: any two bytes can be told, and an enum of fewer would ask more of who calls `write_report`.
+// Two numbers: `write_report` is public and takes any two bytes; an enum would take fewer.
 #[derive(Clone, Copy, PartialEq, Eq, Debug)]
 pub struct RefusedAt {
     pub number: u8,

@@ -23,7 +23,7 @@ pub fn write_report(
     ensures count { result ≡ report_answer outcome (map span windows.now) out.old }
     ensures short { result ≤ 1024 }
 {
-    // 0 and not `None`: C is told so, and `after_report` fixes it (docs/report.md).
+    // 0 and not an error: `trace` hands it on to C as it is, and the answer of a public call stays what it was.
     if out.len() < REPORT_MAX || !are_printable(windows) {
         return 0;
     }

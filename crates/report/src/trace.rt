@@ -80,7 +80,7 @@ fn trace_with<E, F: FnOnce() -> Result<Room, E> + Drop>(
     ensures room { OnErr result (1024 ≤ length output.old) }
     ensures err { OnErr result (output.new ≡ output.old) }
 {
-    // 0 and not an error: C is told so, and `TraceIn` fixes it (docs/report.md).
+    // 0 and not an error, as in `write_report`: C is handed it as it is.
     if output.len() < REPORT_MAX {
         return Ok(0);
     }
@@ -94,6 +94,8 @@ fn trace_with<E, F: FnOnce() -> Result<Room, E> + Drop>(
         AnyBook::Counter => Ok(trace_by(room, CounterBook, input, output)),
     }
 }
+
+// Three forms of one call: in room that is brought, with want of memory as an error, and with a number for C.
 
 /// The same as `trace`, in room that was reserved for the sheet.
 pub fn trace_in(room: Room, input: &[u8], output: &mut [u8]) -> usize

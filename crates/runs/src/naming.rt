@@ -20,6 +20,7 @@ impl Naming {
         ensures here { Listed self.new i k }
         ensures kept { (p j : ℕ) → has (rules_of self.old p) j ≡ true → has (rules_of self.new p) j ≡ true }
     {
+        // By an index, as in `put_at`: `get_mut` would tell a proof nothing of the other sets.
         if k >= 1 && k <= 64 {
             self.sets[k as usize - 1].insert(i);
         }

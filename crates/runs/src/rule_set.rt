@@ -23,7 +23,8 @@ impl RuleSet {
         RuleSet { bits: u128::MAX }
     }
 
-    /// The first place from `from` on whose rule is in the set; where there is none, one past all places.
+    /// The first place from `from` on whose rule is in the set; where there is none, a number past all places.
+    // No `Option`: who passes places over compares one number, whether a rule is left or not.
     pub(crate) fn next(&self, from: usize) -> usize
         requires { from < 128 }
         ensures passed { (j : ℕ) → from ≤ j → j < result → has self.now j ≡ false }

@@ -1,6 +1,5 @@
 //! The run of settle: rules are tried in rounds, each on the windows that the try before left.
-ghost use Rattle.std.specs.Prelude.{◌≡◌, ◌≤◌, true, false, map, ◌≢◌};
-ghost use Rattle.books.specs.Narrowings.{spans};
+ghost use Rattle.std.specs.Prelude.{◌≡◌, ◌≤◌, true, map};
 ghost use Rattle.runs.specs.Rounds.{Attempted, Counted, Ended, FitTry, Ready, Rounded};
 ghost use Rattle.runs.specs.Wakes.{Calm, Woken};
 ghost use Rattle.windows.specs.Windows.{span};
@@ -75,6 +74,7 @@ fn play_round<B: Book>(
         × Rounded (B.meaning book.now) rules.now.items.items n start (map span lines.old.windows.items) (map span lines.new.windows.items) result }
 {
     let mut count = start;
+    // By the next rule awake, and not by a test of each: that was tried and made a settle twice as slow.
     let mut next = agenda.awake.next(0);
     for (i, rule) in rules.items.iter().enumerate() {
         if i < next {
@@ -103,6 +103,7 @@ pub(crate) fn run<B: Book>(book: &B, rules: &Rules, lines: &mut Lines, n: u32) -
 {
     let mut agenda = Agenda::of(rules);
     let mut count = 0;
+    // A loop with no list: a round says whether another follows.
     'rounds: loop {
         match play_round(book, rules, &mut agenda, lines, n, count) {
             Ok(more) => count = more,

@@ -1,5 +1,5 @@
 //! Which rules are awake, and windows put by the numbers of their lines, so that the rules of a line whose window moved wake.
-ghost use Rattle.std.specs.Prelude.{◌≡◌, ℕ, ◌-◌, ◌<◌, true, false, [], ◌∷◌, ◌⊎◌, map, take, ◌≢◌, slice_set};
+ghost use Rattle.std.specs.Prelude.{◌≡◌, ℕ, ◌-◌, ◌<◌, true, [], ◌∷◌, ◌⊎◌, map, take, slice_set};
 ghost use Rattle.books.specs.Narrowings.{read, spans};
 ghost use Rattle.law.specs.Sheets.{put};
 ghost use Rattle.runs.specs.RuleSets.{has};

@@ -1,11 +1,11 @@
 //! Load: a sheet set up from a number, a book and bytes.
-ghost use Rattle.std.specs.Prelude.{◌≡◌, ◌<◌, ◌≤◌, length, IfErr, IfOk};
+ghost use Rattle.std.specs.Prelude.{◌≡◌, ◌<◌, IfErr, IfOk};
 ghost use Rattle.law.specs.Law.{Called};
 ghost use Rattle.law.specs.Sheets.{empty};
 ghost use Rattle.sheet.specs.Answers.{numbered};
 ghost use Rattle.tables.specs.Views.{model};
 ghost use Rattle.stored.specs.Loads.{Filled, Outcome, UnderLaw, bad_length, chain, loads, opened, told};
-ghost use Rattle.stored.specs.Records.{byte, call_of, record_at, records};
+ghost use Rattle.stored.specs.Records.{call_of, record_at, records};
 
 use crate::fault::{LoadFault, Placed};
 use crate::item::{Item, head_fits, read_item, record_at};
@@ -97,6 +97,8 @@ fn fill<B: Book>(sheet: &mut Sheet<B>, bytes: &[u8]) -> Result<(), LoadFault>
     }
     take_chain(sheet, bytes)
 }
+
+// Beside `load_in`, which cannot want memory: callers who bring no room have this one.
 
 /// Sets a sheet up from stored bytes, with this number and this book. A refused load leaves a fresh sheet. Memory is wanted
 /// for setting sheets up alone.

@@ -27,6 +27,8 @@ fn load_again<B: Book + Copy>(room: Room, number: u32, sheet: &Sheet<B>, bytes: 
     load_in(room, number, *sheet.book(), bytes)
 }
 
+// Beside `reload_in`, which cannot want memory, as `load` beside `load_in`.
+
 /// Stores a sheet into the buffer, and loads it back with the same number and book: the same lines, with their windows as they
 /// are now, and the same rules, unsettled, whatever calls led to the sheet.
 pub fn reload<B: Book + Copy>(

@@ -24,6 +24,8 @@ impl Book for BareBook {
 
     ghost KINDS = { false ∷ false ∷ false ∷ false ∷ false ∷ false ∷ false ∷ false ∷ [] };
 
+    ghost arity = { λ _. 0 };
+
     ghost mode = { λ _. 3 };
 
     ghost meaning = { λ _. record { top = 100; arity = λ _. 0; related = λ _ _. ⊥; counts = λ _. inl refl } };
@@ -31,6 +33,8 @@ impl Book for BareBook {
     ghost small = { Prim.search rules };
 
     ghost top = { λ _. refl };
+
+    ghost same = { λ _ _. refl };
 
     ghost known = { Prim.search rules };
 

@@ -17,6 +17,8 @@ pub enum Event {
     Restore(State),
 }
 
+// One match on state and event, with every case: a rule of the project.
+
 /// The state after the event; a barren sheet takes nothing but a strike.
 pub(crate) fn next_state(state: State, event: Event) -> Result<State, Refusal>
     ensures { result ≡ follows state event }

@@ -143,6 +143,7 @@ impl Desk {
     pub fn play(&mut self, heap: Global, line: &[u8]) -> Result<Option<Answer>, AllocError>
         ensures { Heard (meaning line.now) self.old self.new result }
     {
+        // Three outcomes, each answered in its own way.
         match read_command(line) {
             Err(why) => Ok(Some(Answer::Short(Reply::Error(Fault::Unreadable(why))))),
             Ok(None) => Ok(None),

@@ -10,7 +10,7 @@ use law::calls::Answer;
 
 /// A call that neither begins nor ends a try.
 // No `law::calls::Call`: that has the calls with tickets too, which go through the hand.
-#[derive(Clone, Copy)]
+#[derive(Clone, Copy, Debug, PartialEq, Eq, Hash)]
 pub(crate) enum Plain {
     Line { lo: u32, hi: u32 },
     Rule { kind: u32, a: u32, b: u32, c: u32 },

@@ -16,6 +16,7 @@ use tables::room::Room;
 const ROOM: usize = 8;
 
 /// What a load left, with the fault for which the bytes were refused.
+// No `Result`, as for `Loaded`: a folder is left beside the fault.
 pub(crate) struct Filed<F> {
     pub(crate) folder: F,
     pub(crate) fault: Option<LoadFault>,

@@ -1,7 +1,6 @@
 //! Tickets: begun tries, and tickets handed to a sheet.
 ghost use Rattle.std.specs.Prelude.{◌≡◌, ◌<◌, ◌≤◌, ◌≢◌, vec_len, vec_capacity};
 ghost use Rattle.desk.specs.Endings.{call_by, ended};
-ghost use Rattle.desk.specs.Hands.{InStep};
 ghost use Rattle.law.specs.Law.{Called};
 ghost use Rattle.law.specs.Steps.{Steps};
 ghost use Rattle.sheet.specs.Answers.{returned};
@@ -17,7 +16,7 @@ use sheet::ticket::{Returned, Ticket};
 
 /// How a try ends.
 // No closure: it would have to take a sheet of either book.
-#[derive(Clone, Copy)]
+#[derive(Clone, Copy, Debug, PartialEq, Eq, Hash)]
 pub(crate) enum Ending {
     Keep,
     Strike,

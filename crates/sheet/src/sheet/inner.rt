@@ -1,23 +1,19 @@
 //! Tries begun and ended by numbers, without tickets, each with the law on it.
-ghost use Rattle.std.specs.Prelude.{◌≡◌, true, false, length, is_ok, IfOk, OnOk};
+ghost use Rattle.std.specs.Prelude.{◌≡◌, true, false, is_ok, IfOk, OnOk};
 ghost use Rattle.law.specs.declared.calls.Answer.{Answer};
 ghost use Rattle.law.specs.declared.calls.Call.{Call};
 ghost use Rattle.law.specs.Faults.{fault};
 ghost use Rattle.law.specs.Law.{Called};
 ghost use Rattle.law.specs.Steps.{Steps};
 ghost use Rattle.law.specs.Table.{is_barren, verdict};
-ghost use Rattle.sheet.specs.Answers.{begun, ended, numbered, pinched, settled};
+ghost use Rattle.sheet.specs.Answers.{begun, ended};
 ghost use Rattle.sheet.specs.Tickets.{Innermost};
-ghost use Rattle.tables.specs.Edits.{SameRulesAndTries};
 ghost use Rattle.tables.specs.Views.{model};
 
 use super::Sheet;
 use books::book::Book;
-use law::calls::{Refusal, Rule};
-use runs::place::{cut_down, window_at};
-use runs::settled::Settled;
+use law::calls::Refusal;
 use tables::state::Event;
-use windows::window::Window;
 
 impl<B: Book> Sheet<B> {
     /// Begins a try, and answers its depth.

@@ -1,5 +1,5 @@
 //! Setting a sheet up, and reading it, which changes nothing.
-ghost use Rattle.std.specs.Prelude.{◌≡◌, ◌+◌, ◌-◌, [], map, length, vec_len, IfOk};
+ghost use Rattle.std.specs.Prelude.{◌≡◌, ◌+◌, ◌-◌, [], map, length, IfOk};
 ghost use Rattle.law.specs.Law.{Law};
 ghost use Rattle.law.specs.Sheets.{empty};
 ghost use Rattle.law.specs.Steps.{Reached};
@@ -17,6 +17,7 @@ use tables::tables::Tables;
 use windows::window::Window;
 
 impl<B: Book + Drop> Sheet<B> {
+    // Beside `in_room`, which cannot want memory: callers who bring no room have this one.
     /// An empty sheet of this number, unsettled. The room for 64 lines, 128 rules and 8 tries is reserved here, so that no
     /// later call can want memory.
     pub fn new(heap: Global, number: u32, book: B) -> Result<Sheet<B>, AllocError>

@@ -69,7 +69,7 @@ impl Tables {
 
     /// The cases of a rule, by how many lines the book has for its kind.
     pub fn check_rule<B: Book>(&self, rule: Rule) -> Result<(), Refusal>
-        ensures { (book : B) → fault result ≡ first (rule_cases ((B.meaning book).arity rule.kind) (vec_len self.now.lines.windows) (vec_len self.now.rules.items) rule) }
+        ensures { fault result ≡ first (rule_cases (B.arity rule.kind) (vec_len self.now.lines.windows) (vec_len self.now.rules.items) rule) }
     {
         let count = B::lines(rule.kind);
         first_fault(&[

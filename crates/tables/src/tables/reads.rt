@@ -1,8 +1,7 @@
 //! Reading the tables, which changes nothing.
-ghost use Rattle.std.specs.Prelude.{◌≡◌, map, length, vec_len};
+ghost use Rattle.std.specs.Prelude.{◌≡◌, length, vec_len};
 ghost use Rattle.tables.specs.Reads.{Read};
 ghost use Rattle.tables.specs.Views.{model};
-ghost use Rattle.windows.specs.Windows.{span};
 
 use super::Tables;
 use super::faults::no_line;

@@ -1,4 +1,4 @@
-use Rattle.std.proofs.Common.{◌≡◌, ℕ, Some, Ok, Bool, true, false, ◌&&◌, eqb, [], ◌∷◌, List, map, get_or, take, vec_items, refl, ap, ◌∙◌, subst, arith}
+use Rattle.std.proofs.Common.{◌≡◌, ℕ, Some, Ok, Bool, true, false, ◌&&◌, eqb, [], ◌∷◌, List, map, get_or, take, vec_items, refl, ap, ◌∙◌, subst, arith, sym}
 use Rattle.std.proofs.lemmas.Bool.{and_from, eq-eqb}
 use Rattle.boxes.specs.declared.triple.Triple.{Triple}
 use Rattle.windows.specs.Spans.{Span, nowhere}
@@ -35,7 +35,7 @@ pub returns-then-room-clause-tried : goal.returns-then-room-clause-tried
 returns-then-room-clause-tried g c = λ f. let m = g.B.Book.meaning c.args.book.now in let closed : Answers m c.args.rule.kind (spans c.windows_of-before.result) (Ok (Some c.in-Ok-Some.after)) = subst (λ o. Answers m c.args.rule.kind (spans c.windows_of-before.result) (Ok o)) c.in-Ok-Some.field-0-is c.in-Ok-Some.ensures in (
   _,
   narrows_is m (map span (vec_items c.args.lines.now.windows)) c.args.rule c.windows_of-before.result c.windows_of-before.ensures c.in-Ok-Some.after closed.1 (apart c.in-Ok-Some.after c.windows_of-before.result c.if-eq.ensures),
-  c.put_back.ensures.put ∙ ap (λ (n : ℕ). put (take n (c.args.rule.a ∷ c.args.rule.b ∷ c.args.rule.c ∷ [])) (read n (spans c.in-Ok-Some.after)) (map span (vec_items c.args.lines.now.windows))) (c.lines.ensures c.args.book.now),
+  c.put_back.ensures.put ∙ ap (λ (n : ℕ). put (take n (c.args.rule.a ∷ c.args.rule.b ∷ c.args.rule.c ∷ [])) (read n (spans c.in-Ok-Some.after)) (map span (vec_items c.args.lines.now.windows))) (c.lines.ensures ∙ sym (g.met.B.Book.same c.args.book.now c.args.rule.kind)),
   c.if-room.true,
 )
 

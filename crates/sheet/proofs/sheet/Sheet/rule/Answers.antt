@@ -1,4 +1,4 @@
-use Rattle.std.proofs.Common.{◌≡◌, ℕ, ◌+◌, ◌<◌, length, sym, refl, ap, ◌∙◌, subst}
+use Rattle.std.proofs.Common.{◌≡◌, ℕ, ◌+◌, ◌<◌, length, vec_len, sym, refl, ap, ◌∙◌, subst}
 use Rattle.std.proofs.lemmas.Result.{err_from_is_err_and}
 use Rattle.windows.specs.Meanings.{Meaning}
 use Rattle.law.specs.declared.calls.Answer.{Answer}
@@ -6,6 +6,7 @@ use Rattle.law.specs.declared.calls.Call.{Call}
 use Rattle.law.specs.declared.calls.State.{State}
 use Rattle.law.specs.Sheets.{Model}
 use Rattle.law.specs.Steps.{does, refused, with_core}
+use Rattle.law.specs.Table.{first, rule_cases}
 use Rattle.law.proofs.Verdicts.{rule_taken}
 use Rattle.tables.specs.Edits.{ruled_as}
 use Rattle.tables.specs.Views.{core, model}
@@ -36,10 +37,11 @@ returns-in_err-check_rule g c =
     let m : Meaning = g.B.Book.meaning c.args.self.now.book in
     let id : ℕ = c.args.self.now.number in
     let t = c.args.self.now.tables in
+    let counted = ap (λ (n : ℕ). first (rule_cases n (vec_len t.lines.windows) (vec_len t.rules.items) (named c.args.kind c.args.a c.args.b c.args.c))) (g.met.B.Book.same c.args.self.now.book c.args.kind) in
     let p = err_from_is_err_and c.from_residual-in_err-check_rule.result c.from_residual-in_err-check_rule.ensures.1 in
     rw (p.1, p.2) (record {
-      called = turned_away m id (model t) (Call.Rule (named c.args.kind c.args.a c.args.b c.args.c)) _ (rule_cleared t m id (named c.args.kind c.args.a c.args.b c.args.c) _ (sym c.in_ok-next.ensures) ∙ sym (c.in_err-check_rule.ensures c.args.self.now.book));
-      step = refused _ (rule_cleared t m id (named c.args.kind c.args.a c.args.b c.args.c) _ (sym c.in_ok-next.ensures) ∙ sym (c.in_err-check_rule.ensures c.args.self.now.book)) refl refl;
+      called = turned_away m id (model t) (Call.Rule (named c.args.kind c.args.a c.args.b c.args.c)) _ (rule_cleared t m id (named c.args.kind c.args.a c.args.b c.args.c) _ (sym c.in_ok-next.ensures) ∙ (counted ∙ sym c.in_err-check_rule.ensures));
+      step = refused _ (rule_cleared t m id (named c.args.kind c.args.a c.args.b c.args.c) _ (sym c.in_ok-next.ensures) ∙ (counted ∙ sym c.in_err-check_rule.ensures)) refl refl;
       number = refl;
       book = refl;
       tries = refl;
@@ -51,7 +53,8 @@ returns g c =
     let m : Meaning = g.B.Book.meaning c.args.self.now.book in
     let id : ℕ = c.args.self.now.number in
     let t = c.args.self.now.tables in
-    let free = rule_cleared t m id (named c.args.kind c.args.a c.args.b c.args.c) _ (sym c.in_ok-next.ensures) ∙ sym (c.in_ok-check_rule.ensures c.args.self.now.book) in
+    let counted = ap (λ (n : ℕ). first (rule_cases n (vec_len t.lines.windows) (vec_len t.rules.items) (named c.args.kind c.args.a c.args.b c.args.c))) (g.met.B.Book.same c.args.self.now.book c.args.kind) in
+    let free = rule_cleared t m id (named c.args.kind c.args.a c.args.b c.args.c) _ (sym c.in_ok-next.ensures) ∙ (counted ∙ sym c.in_ok-check_rule.ensures) in
     let next = unsettled t.state _ (sym c.in_ok-next.ensures) in
     let after = c.add_rule.ensures.added (subst (λ (n : ℕ). n < 128) (rules_count t) (rule_taken m id (model t) (named c.args.kind c.args.a c.args.b c.args.c) free).room) ∙ ap (λ (s : State). with_core (model t) (ruled_as s (core t) (named c.args.kind c.args.a c.args.b c.args.c))) next in
     let number : c.rule_count.result ≡ length (model t).core.rules + 1 = c.rule_count.ensures ∙ ruled c.add_rule.new.self t State.Unsettled (named c.args.kind c.args.a c.args.b c.args.c) after in
