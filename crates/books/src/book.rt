@@ -1,7 +1,7 @@
 //! The book: the interface between a sheet and the rules of one drive.
 ghost use Rattle.std.specs.Prelude.{◌≡◌, ℕ, ◌<◌, ◌≤◌, ◌⊎◌, ◌↔◌, Bool, true, false, List, slice_index_or};
 ghost use Rattle.books.specs.Narrowings.{Answers, spans};
-ghost use Rattle.windows.specs.Meanings.{Meaning};
+ghost use Rattle.windows.specs.Meanings.{Counts, Meaning};
 
 use crate::narrowing::Narrowing;
 use boxes::triple::Triple;
@@ -28,6 +28,9 @@ pub trait Book {
     ghost mode: { Self → ℕ };
 
     ghost meaning: { Self → Meaning };
+
+    /// A kind names 0, 2 or 3 lines: said of the type, for callers that have no book at hand.
+    ghost counts: { Counts arity };
 
     // A kind goes by its number, and a book that has not got it says 0: any number may be asked for, and the rules of the project
     // have it so.

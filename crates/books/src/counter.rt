@@ -1,6 +1,6 @@
 //! The book of the counter drive.
 ghost use Rattle.books.specs.CounterBooks.{counter_lines, counter_meaning};
-ghost use Rattle.books.specs.Kinds.{known, two_to_five};
+ghost use Rattle.books.specs.Kinds.{counted, known, two_to_five};
 ghost use Rattle.std.proofs.Common.{rules};
 ghost use Rattle.std.specs.Prelude.{refl};
 
@@ -34,6 +34,8 @@ impl Book for CounterBook {
     ghost mode = { λ _. 0 };
 
     ghost meaning = { λ _. counter_meaning };
+
+    ghost counts = { counted two_to_five };
 
     ghost small = { Prim.search rules };
 

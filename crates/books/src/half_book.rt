@@ -2,7 +2,7 @@
 ghost use Rattle.std.specs.Prelude.{◌≡◌, ◌<◌, MatchResult, refl};
 ghost use Rattle.half.specs.Roundings.{mode_number};
 ghost use Rattle.books.specs.HalfBooks.{fault_number, half_lines, half_meaning};
-ghost use Rattle.books.specs.Kinds.{known, two_to_five};
+ghost use Rattle.books.specs.Kinds.{counted, known, two_to_five};
 ghost use Rattle.books.specs.declared.half_book.BookFault.TheVariants.{NoMode};
 ghost use Rattle.std.proofs.Common.{rules};
 
@@ -66,6 +66,8 @@ impl Book for HalfBook {
     ghost mode = { λ book. mode_number book.mode };
 
     ghost meaning = { λ book. half_meaning book.mode };
+
+    ghost counts = { counted two_to_five };
 
     ghost small = { Prim.search rules };
 

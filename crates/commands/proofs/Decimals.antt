@@ -7,6 +7,9 @@ use Rattle.std.proofs.lemmas.Bool.{cases_eq, eq-eqb, ne_eqb}
 use Rattle.half.specs.Formats.{half, size}
 use Rattle.commands.specs.Numbers.{spells}
 use Rattle.commands.specs.declared.value.End.{End}
+use Rattle.commands.specs.declared.print.Answer.{Answer}
+use Rattle.commands.specs.declared.reply.Reply.{Reply}
+use Rattle.commands.specs.Prints.{ExactAnswer}
 use Rattle.commands.specs.Values.{ExactDigits, ExactEnd, digits_of, last_digit}
 
 -- The size of a code with the exponent 0, and of any other.
@@ -115,3 +118,8 @@ exact_digits rest small =
 pub exact_end : (end : End) → ExactEnd end
 exact_end (End.Count n) = tt
 exact_end (End.Half code) = exact_digits (size half code % 16777216) (omega arith)
+
+-- So are the ends that an answer tells.
+pub exact_answer : (answer : Answer) → ExactAnswer answer
+exact_answer (Answer.Short (Reply.Value lo hi)) = (exact_end lo, exact_end hi)
+exact_answer _ = tt

@@ -8,7 +8,9 @@ use Rattle.std.specs.List.{flat_map}
 use Rattle.windows.specs.Spans.{Span}
 use Rattle.windows.specs.Windows.{span}
 use Rattle.commands.specs.declared.print.Answer.{Answer}
+use Rattle.commands.specs.declared.reply.Reply.{Reply}
 use Rattle.commands.specs.Replies.{shown}
+use Rattle.commands.specs.Values.{ExactEnd}
 
 -- A line of three numbers.
 abbrev pub triple : ℕ → ℕ → ℕ → List ℕ
@@ -57,3 +59,13 @@ printed (Answer.Short reply) = shown reply
 printed (Answer.Lines windows) = listed (map span (vec_items windows))
 printed (Answer.Stored bytes) = stored (vec_items bytes)
 printed Answer.Help = help
+
+-- The ends that a reply tells are exact, and none of their digits is needless.
+abbrev pub ExactReply : Reply → Type 0
+ExactReply (Reply.Value lo hi) = ExactEnd lo × ExactEnd hi
+ExactReply _ = Unit {0}
+
+-- So are those of every answer.
+abbrev pub ExactAnswer : Answer → Type 0
+ExactAnswer (Answer.Short reply) = ExactReply reply
+ExactAnswer _ = Unit {0}

@@ -1,6 +1,6 @@
 //! What the desk prints.
-ghost use Rattle.std.specs.Prelude.{◌≡◌, IfOk, string_bytes};
-ghost use Rattle.commands.specs.Prints.{printed};
+ghost use Rattle.std.specs.Prelude.{◌≡◌, ◌<◌, ◌++◌, IfOk, OnOk, string_bytes};
+ghost use Rattle.commands.specs.Prints.{ExactAnswer, glyph, hex_text, printed};
 
 use crate::reply::Reply;
 use std::alloc::{AllocError, Global};
@@ -95,9 +95,45 @@ impl fmt::Display for Hex<'_> {
     }
 }
 
-/// What is printed for an answer.
-pub fn print_answer(heap: Global, answer: &Answer) -> Result<String, AllocError>
-    ensures { IfOk result (λ s. string_bytes s ≡ printed answer.now) }
+/// A hexadecimal digit.
+fn digit(n: u8) -> char
+    requires { n < 16 }
+    ensures { result ≡ glyph n }
 {
-    answer.to_string(heap)
+    char::from(if n < 10 { b'0' + n } else { b'a' + (n - 10) })
+}
+
+/// Writes bytes in hexadecimal at the end of a text.
+// Digit by digit, and not by `Hex`: what a format goes through for each byte made a store take four times as long.
+fn push_hex(text: &mut String, bytes: &[u8]) -> Result<(), AllocError>
+    ensures { OnOk result (string_bytes text.new ≡ string_bytes text.old ++ hex_text bytes.now) }
+{
+    for &byte in bytes {
+        text.push(digit(byte / 16))?;
+        text.push(digit(byte % 16))?;
+    }
+    Ok(())
+}
+
+/// How many bytes are reserved for a text at first. Most answers have fewer.
+const ROOM: usize = 64;
+
+/// What is printed for an answer. The ends that it tells are exact.
+pub fn print_answer(heap: Global, answer: &Answer) -> Result<String, AllocError>
+    ensures text { IfOk result (λ s. string_bytes s ≡ printed answer.now) }
+    ensures exact { ExactAnswer answer.now }
+{
+    // With room at once: a text that begins with none wants memory several times for a line.
+    let mut text = String::with_capacity(heap, ROOM)?;
+    match answer {
+        Answer::Stored(bytes) => {
+            writeln!(text, "stored {}", bytes.len())?;
+            push_hex(&mut text, bytes.as_slice())?;
+            text.push('\n')?;
+        }
+        _ => {
+            write!(text, "{answer}")?;
+        }
+    }
+    Ok(text)
 }

@@ -79,7 +79,7 @@ impl fmt::Display for Digits {
                 break;
             }
             let tenfold = left * 10;
-            write!(f, "{}", tenfold / UNITS)?;
+            f.write_char(char::from(b'0' + (tenfold / UNITS) as u8))?;
             left = tenfold % UNITS;
         }
         Ok(())

@@ -7,9 +7,17 @@ use std::io::{BufRead, BufReader, Write};
 
 /// Plays every line of standard input.
 fn play_all(rt: &HostRuntime, desk: &mut Desk) -> anyhow::Result<()> {
-    let input = BufReader::new(rt.alloc(), rt.stdin())?;
-    for line in input.split(rt.alloc(), b'\n') {
-        if let Some(answer) = desk.play(rt.alloc(), line?.as_slice())? {
+    let mut input = BufReader::new(rt.alloc(), rt.stdin())?;
+    // One buffer for all lines: `split` makes a `Vec` for each, and an input of short lines took three times as long.
+    let mut line = Vec::new(rt.alloc());
+    // Nothing says that the input ends, so its lines are counted.
+    for _ in 0..u64::MAX {
+        line.clear();
+        if input.read_until(b'\n', &mut line)? == 0 {
+            break;
+        }
+        let text = line.strip_suffix(b"\n").unwrap_or(&line);
+        if let Some(answer) = desk.play(rt.alloc(), text)? {
             rt.print(print_answer(rt.alloc(), &answer)?)?;
         }
     }

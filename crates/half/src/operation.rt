@@ -31,11 +31,12 @@ pub trait Exact {
     ghost rises: { (a a' b b' : ℕ) → a ≤ a' → b ≤ b' → (exact a b).parts ≤ (exact a' b').parts };
 }
 
-/// The exact result of two half codes, rounded in one direction.
+/// The exact result of two half codes, rounded in one direction. Both fields are public, so that one can be written as a constant too,
+/// where no function can be called.
 #[derive_where(Clone, Copy, Debug, PartialEq, Eq, Hash)]
 pub struct Rounded<X> {
     pub mode: Mode,
-    of: PhantomData<X>,
+    pub of: PhantomData<X>,
 }
 
 impl<X: Exact> Rounded<X> {

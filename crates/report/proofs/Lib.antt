@@ -1,3 +1,4 @@
+pub mod Adding
 pub mod Rows
 pub mod Traces
 pub mod Once

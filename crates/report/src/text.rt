@@ -27,8 +27,10 @@ pub fn write_report(
     if out.len() < REPORT_MAX || !are_printable(windows) {
         return 0;
     }
-    let mut text = Text::new();
+    let mut text = Text {
+        memory: out,
+        len: 0,
+    };
     push_report(&mut text, outcome, windows);
-    out[..text.len()].copy_from_slice(text.as_str().as_bytes());
-    text.len()
+    text.len
 }

@@ -1,6 +1,6 @@
 -- The turns of a round: rules that are asleep are passed over, one that was tried goes to sleep.
 -- Assumes nothing.
-use Rattle.std.proofs.Common.{◌≡◌, ℕ, ◌+◌, ◌<◌, ◌≤◌, Bool, true, false, List, length, get_or, ltb, le_refl, sym, refl, subst, arith}
+use Rattle.std.proofs.Common.{◌≡◌, ℕ, zero, suc, ◌+◌, ◌<◌, ◌≤◌, Bool, true, false, List, length, get_or, ltb, le_refl, sym, refl, subst, arith}
 use Rattle.std.proofs.lemmas.Bool.{le-ltb, lt-ltb, ltb-false, ltb-true}
 use Rattle.windows.specs.Spans.{Span}
 use Rattle.windows.specs.Meanings.{Meaning}
@@ -88,6 +88,12 @@ module _ (m : Meaning) (rules : List Rule) (n c₀ : ℕ) (ws₀ : List Span) wh
             subst (Going m rules n c₀ ws₀ (i + 1) true (c + 1)) (sym h.2) (on_narrowed m rules n c₀ ws₀ i (ltb c₀ c) c ws here at.going h.0 h.1 (ltb-true c n h.3)) in
             asleep (c + 1) (subst (λ (q : Bool). Going m rules n c₀ ws₀ (i + 1) q (c + 1) vs) (sym (lt-ltb c₀ (c + 1) (omega arith))) going)
             (subst (λ (xs : List Span). Still m xs r) (sym h.2) (narrowed_still m ws r h.0 fit.rule_fits h.1))
+
+  -- rules that are asleep are passed over, one after the other, up to rule k + 1
+  pub at_awake : (d i k c : ℕ) (ws : List Span) (a : Agenda) → i + d ≡ k → k ≤ length rules → ((j : ℕ) → i ≤ j → j < k → has a.awake j ≡ false) → At i c ws a → At k c ws a
+  at_awake zero i k c ws a e l asleep at = subst (λ (j : ℕ). At j c ws a) (omega arith) at
+  at_awake (suc d) i k c ws a e l asleep at =
+      at_awake d (i + 1) k c ws a (omega arith) l (λ j from to. asleep j (omega arith) to) (at_asleep i c ws a (omega arith) at (asleep i (omega arith) (omega arith)))
 
   -- all rules were tried or passed over
   module _ (i c : ℕ) (ws : List Span) (a : Agenda) (over : length rules ≤ i) (at : At i c ws a) where

@@ -27,6 +27,7 @@ impl RuleSet {
     // No `Option`: who passes places over compares one number, whether a rule is left or not.
     pub(crate) fn next(&self, from: usize) -> usize
         requires { from < 128 }
+        ensures onward { from ≤ result }
         ensures passed { (j : ℕ) → from ≤ j → j < result → has self.now j ≡ false }
         ensures here { result < 128 → has self.now result ≡ true }
     {

@@ -30,6 +30,8 @@ impl Book for BareBook {
 
     ghost meaning = { λ _. record { top = 100; arity = λ _. 0; related = λ _ _. ⊥; counts = λ _. inl refl } };
 
+    ghost counts = { λ _. inl refl };
+
     ghost small = { Prim.search rules };
 
     ghost top = { λ _. refl };

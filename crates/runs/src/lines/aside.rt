@@ -21,8 +21,10 @@ impl Lines {
         ensures { self.new.windows.items ≡ kept snapshot.now }
     {
         self.windows.clear();
-        self.windows
-            .extend_from_slice(&snapshot.windows[..snapshot.count])
-            .unwrap();
+        // One by one into the room that is reserved: `extend_from_slice` brings in the growing of a `Vec`, and an archive for C then
+        // wants `rattle_realloc` from outside.
+        for window in &snapshot.windows[..snapshot.count] {
+            self.windows.push_reserved(*window);
+        }
     }
 }

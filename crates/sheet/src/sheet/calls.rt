@@ -15,10 +15,8 @@ use super::Sheet;
 use crate::ticket::{Returned, Ticket};
 use books::book::Book;
 use law::calls::{Refusal, Rule};
-use runs::place::{cut_down, window_at};
 use runs::settled::Settled;
 use tables::state::Event;
-use windows::window::Window;
 
 // That number and book stay is said in each call: it is of before and after, which no ghost field tells.
 impl<B: Book> Sheet<B> {
@@ -30,10 +28,7 @@ impl<B: Book> Sheet<B> {
         ensures book { self.new.book ≡ self.old.book }
         ensures tries { length (model self.new.tables).saved ≡ length (model self.old.tables).saved }
     {
-        let next = self.tables.admit(Event::Change)?;
-        self.tables.check_line(B::TOP, lo, hi)?;
-        self.tables.add_line(Window::spanning(lo, hi), next);
-        Ok(self.tables.line_count())
+        self.take_line(lo, hi)
     }
 
     /// Adds a rule of this kind on the lines of these numbers, and answers its number. For a two-line kind `c` is 0.
@@ -44,11 +39,7 @@ impl<B: Book> Sheet<B> {
         ensures book { self.new.book ≡ self.old.book }
         ensures tries { length (model self.new.tables).saved ≡ length (model self.old.tables).saved }
     {
-        let rule = Rule { kind, a, b, c };
-        let next = self.tables.admit(Event::Change)?;
-        self.tables.check_rule::<B>(rule)?;
-        self.tables.add_rule(rule, next);
-        Ok(self.tables.rule_count())
+        self.take_rule(Rule { kind, a, b, c })
     }
 
     /// Cuts the line's window down to what lies in `lo` to `hi` as well.
@@ -59,12 +50,7 @@ impl<B: Book> Sheet<B> {
         ensures book { self.new.book ≡ self.old.book }
         ensures tries { length (model self.new.tables).saved ≡ length (model self.old.tables).saved }
     {
-        let next = self.tables.admit(Event::Change)?;
-        self.tables.check_pinch(B::TOP, line, lo, hi)?;
-        let present = window_at(self.tables.windows(), line);
-        self.tables
-            .set_window(line, cut_down(present, lo, hi), next);
-        Ok(())
+        self.take_pinch(line, lo, hi)
     }
 
     /// Closes windows until no rule closes them further, with an allowance of `n` narrowings.

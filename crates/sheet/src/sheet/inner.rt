@@ -1,21 +1,68 @@
-//! Tries begun and ended by numbers, without tickets, each with the law on it.
-ghost use Rattle.std.specs.Prelude.{◌≡◌, true, false, is_ok, IfOk, OnOk};
+//! What the calls do, each with the law on it: `calls` makes them public. Lines, rules and pinches are taken here and not in their
+//! calls, so that a wrong call meets this contract, and not the proof of the work; tries are begun and ended by numbers, without tickets.
+ghost use Rattle.std.specs.Prelude.{◌≡◌, true, false, length, is_ok, IfOk, OnOk};
 ghost use Rattle.law.specs.declared.calls.Answer.{Answer};
 ghost use Rattle.law.specs.declared.calls.Call.{Call};
 ghost use Rattle.law.specs.Faults.{fault};
 ghost use Rattle.law.specs.Law.{Called};
 ghost use Rattle.law.specs.Steps.{Steps};
 ghost use Rattle.law.specs.Table.{is_barren, verdict};
-ghost use Rattle.sheet.specs.Answers.{begun, ended};
+ghost use Rattle.sheet.specs.Answers.{begun, ended, numbered, pinched};
 ghost use Rattle.sheet.specs.Tickets.{Innermost};
 ghost use Rattle.tables.specs.Views.{model};
 
 use super::Sheet;
 use books::book::Book;
-use law::calls::Refusal;
+use law::calls::{Refusal, Rule};
+use runs::place::{cut_down, window_at};
 use tables::state::Event;
+use windows::window::Window;
 
 impl<B: Book> Sheet<B> {
+    /// Adds a line.
+    pub(super) fn take_line(&mut self, lo: u32, hi: u32) -> Result<u32, Refusal>
+        ensures called { Called (B.meaning self.old.book) self.old.number (model self.old.tables) (Call.Line lo hi) (model self.new.tables) (numbered result) }
+        ensures step { Steps (B.meaning self.old.book) self.old.number (model self.old.tables) (Call.Line lo hi) (model self.new.tables) (numbered result) }
+        ensures number { self.new.number ≡ self.old.number }
+        ensures book { self.new.book ≡ self.old.book }
+        ensures tries { length (model self.new.tables).saved ≡ length (model self.old.tables).saved }
+    {
+        let next = self.tables.admit(Event::Change)?;
+        self.tables.check_line(B::TOP, lo, hi)?;
+        self.tables.add_line(Window::spanning(lo, hi), next);
+        Ok(self.tables.line_count())
+    }
+
+    /// Adds a rule.
+    pub(super) fn take_rule(&mut self, rule: Rule) -> Result<u32, Refusal>
+        ensures called { Called (B.meaning self.old.book) self.old.number (model self.old.tables) (Call.Rule rule) (model self.new.tables) (numbered result) }
+        ensures step { Steps (B.meaning self.old.book) self.old.number (model self.old.tables) (Call.Rule rule) (model self.new.tables) (numbered result) }
+        ensures number { self.new.number ≡ self.old.number }
+        ensures book { self.new.book ≡ self.old.book }
+        ensures tries { length (model self.new.tables).saved ≡ length (model self.old.tables).saved }
+    {
+        let next = self.tables.admit(Event::Change)?;
+        self.tables.check_rule::<B>(rule)?;
+        self.tables.add_rule(rule, next);
+        Ok(self.tables.rule_count())
+    }
+
+    /// Cuts a line's window down.
+    pub(super) fn take_pinch(&mut self, line: u32, lo: u32, hi: u32) -> Result<(), Refusal>
+        ensures called { Called (B.meaning self.old.book) self.old.number (model self.old.tables) (Call.Pinch line lo hi) (model self.new.tables) (pinched result) }
+        ensures step { Steps (B.meaning self.old.book) self.old.number (model self.old.tables) (Call.Pinch line lo hi) (model self.new.tables) (pinched result) }
+        ensures number { self.new.number ≡ self.old.number }
+        ensures book { self.new.book ≡ self.old.book }
+        ensures tries { length (model self.new.tables).saved ≡ length (model self.old.tables).saved }
+    {
+        let next = self.tables.admit(Event::Change)?;
+        self.tables.check_pinch(B::TOP, line, lo, hi)?;
+        let present = window_at(self.tables.windows(), line);
+        self.tables
+            .set_window(line, cut_down(present, lo, hi), next);
+        Ok(())
+    }
+
     /// Begins a try, and answers its depth.
     pub(super) fn begin(&mut self) -> Result<u32, Refusal>
         ensures called { Called (B.meaning self.old.book) self.old.number (model self.old.tables) Call.Open (model self.new.tables) (begun self.old.number result) }

@@ -1,6 +1,7 @@
 use Rattle.std.proofs.Common.{ℕ, ◌+◌, ◌-◌, ◌*◌, ◌/◌, List, [], ◌∷◌, ◌++◌, subst, refl, ap, ◌∙◌, arith, rules}
 use Rattle.std.specs.Fmt.{HasWritten}
-use Rattle.std.proofs.lemmas.Fmt.{decimal_digit}
+use Rattle.std.specs.Char.{encode_utf8}
+use Rattle.std.proofs.lemmas.Str.{encode_ascii}
 use Rattle.std.proofs.lemmas.Grind.{put_two}
 use Rattle.commands.specs.Values.{digits_of}
 use Rattle.commands.proofs.Decimals.{digits_end, digits_more, digits_none, digits_spent}
@@ -12,8 +13,8 @@ loop-place-preserved g c = record {
   written = λ p.
       let inv = c.loop-place.invariant.written p in
       let digit : ℕ = c.loop-place.left * 10 / 16777216 in
-      let here : HasWritten g.W.Write.write_str_gives c.loop-place.f ((48 + digit) ∷ []) c.write.new.self =
-      subst (λ (l : List ℕ). HasWritten g.W.Write.write_str_gives c.loop-place.f l c.write.new.self) (decimal_digit digit (omega arith)) (search rules) in (
+      let here : HasWritten g.W.Write.write_str_gives c.loop-place.f ((48 + digit) ∷ []) c.write_char.new.self =
+      subst (λ (l : List ℕ). HasWritten g.W.Write.write_str_gives c.loop-place.f l c.write_char.new.self) (ap encode_utf8 c.from.ensures ∙ encode_ascii (48 + digit) (omega arith)) (search rules) in (
         inv.0 ++ ((48 + digit) ∷ []),
         put_two _ _ _ _ _ _ _ inv.1 here refl,
         digits_more _ _ c.loop-place.place c.loop-place.left (omega arith) (λ z. omega arith) inv.2,

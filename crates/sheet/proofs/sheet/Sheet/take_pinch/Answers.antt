@@ -15,7 +15,7 @@ use Rattle.tables.specs.Edits.{pinched_as}
 use Rattle.tables.specs.Views.{core, model}
 use Rattle.sheet.proofs.Verdicts.{pinch_barred, pinch_cleared, unsettled, turned_away, taken}
 use Rattle.sheet.proofs.Numbers.{cut_is}
-use Rattle.sheet.proofs.sheet.Sheet.pinch.Goals as goal
+use Rattle.sheet.proofs.sheet.Sheet.take_pinch.Goals as goal
 
 -- the sheet's state turns the call away
 pub returns-in_err-next : goal.returns-in_err-next

@@ -14,7 +14,7 @@ use Rattle.tables.specs.Views.{core, model}
 use Rattle.sheet.proofs.Verdicts.{line_barred, line_cleared, unsettled, turned_away, taken}
 use Rattle.tables.proofs.Counts.{lines_count}
 use Rattle.sheet.proofs.Numbers.{spanning_is, grown}
-use Rattle.sheet.proofs.sheet.Sheet.line.Goals as goal
+use Rattle.sheet.proofs.sheet.Sheet.take_line.Goals as goal
 
 -- the sheet's state turns the call away
 pub returns-in_err-next : goal.returns-in_err-next
